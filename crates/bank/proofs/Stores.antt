@@ -1,0 +1,1 @@
+-- What a write leaves of a bank, seen through the shapes.

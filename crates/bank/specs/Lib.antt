@@ -1,0 +1,4 @@
+pub mod Due
+pub mod Meaning
+pub mod Shapes
+pub mod Told

@@ -1,0 +1,10 @@
+// A bank of drives: the interface between the engine and what holds the bytes, and what it means.
+// A bank's meaning is in specs/Meaning.antt; the methods here answer from it.
+mod cause;
+mod source;
+mod traits;
+
+pub use cause::Cause;
+pub use source::Source;
+pub use traits::Bank;
+pub use traits::Plain;

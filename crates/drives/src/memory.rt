@@ -1,0 +1,94 @@
+// A drive over bytes that the caller lends.
+ghost use denote.Ref.{now};
+ghost use mathlib.Core.Path.{_≡_};
+ghost use Prim.Native.Nat.{_+_, _*_, _/_, _^_, _≤_, _<_, min};
+ghost use lib.ListN.{length};
+ghost use Rattle.drives.specs.Single.{one-drive, memory};
+use super::single;
+use bank::Bank;
+use bank::Cause;
+use bank::Plain;
+use bank::Source;
+
+#[derive(Drop)]
+pub struct Memory<'a> {
+    bytes: &'a mut [u8],
+    unreadable: &'a [u64],
+    unwritable: &'a [u64],
+}
+
+impl<'a> Memory<'a> {
+    pub fn new(bytes: &'a mut [u8], unreadable: &'a [u64], unwritable: &'a [u64]) -> Memory<'a>
+        ensures { λ r. ⌜ one-drive (memory (now (r .bytes)) (now (r .unreadable)) (now (r .unwritable))) ≡ one-drive (memory (now (bytes .entry)) (now (unreadable .entry)) (now (unwritable .entry))) ⌝ }
+    {
+        Memory {
+            bytes,
+            unreadable,
+            unwritable,
+        }
+    }
+
+    fn sectors(&self) -> u64
+        ensures { λ r. ⌜ r ≡ min (length (now (now (self .entry) .bytes)) / 512) (2 ^ 40) ⌝ }
+    {
+        let whole = self.bytes.len() / single::SECTOR;
+        (whole as u64).min(1 << 40)
+    }
+}
+
+pub impl Bank for Memory<'_> as MemoryBank {
+    ghost meaning = { λ m. one-drive (memory (now (m .bytes)) (now (m .unreadable)) (now (m .unwritable))) };
+
+    ghost stands = { λ _. Unit {0} };
+
+    fn count(&self) -> u8 {
+        1
+    }
+
+    fn length(&self, drive: u8) -> u64 {
+        if drive == 0 { self.sectors() } else { 0 }
+    }
+
+    fn read_end(&self, drive: u8, sector: u64) -> Result<Source, Cause> {
+        single::locate(drive, sector, self.sectors())?;
+        if single::marks(self.unreadable, sector) {
+            return Err(Cause::Unreadable);
+        }
+        Ok(Source::Cell { drive, sector })
+    }
+
+    fn write_cause(&self, drive: u8, sector: u64) -> Option<Cause> {
+        if let Err(cause) = single::locate(drive, sector, self.sectors()) {
+            return Some(cause);
+        }
+        if single::marks(self.unwritable, sector) {
+            return Some(Cause::Unwritable);
+        }
+        None
+    }
+
+    fn read(&self, drive: u8, sector: u64, place: &mut [u8]) -> Result<Source, Cause> {
+        if place.len() != single::SECTOR {
+            return Err(Cause::WrongSize);
+        }
+        let source = self.read_end(drive, sector)?;
+        let start = sector as usize * single::SECTOR;
+        place.copy_from_slice(&self.bytes[start..start + single::SECTOR]);
+        Ok(source)
+    }
+
+    fn write(&mut self, drive: u8, sector: u64, bytes: &[u8]) -> Result<(), Cause> {
+        if bytes.len() != single::SECTOR {
+            return Err(Cause::WrongSize);
+        }
+        if let Some(cause) = self.write_cause(drive, sector) {
+            return Err(cause);
+        }
+        let start = sector as usize * single::SECTOR;
+        self.bytes[start..start + single::SECTOR]
+            .copy_from_slice(bytes);
+        Ok(())
+    }
+}
+
+pub impl Plain for Memory<'_> as MemoryPlain {}
