@@ -1,2 +1,4 @@
+pub mod Dues
+pub mod Sectors
 pub mod Shapes
 pub mod Stores

@@ -1,1 +1,4 @@
-pub mod Single
+pub mod Disks
+pub mod Laws
+pub mod Sides
+pub mod Slots

@@ -3,7 +3,17 @@ mod memory;
 mod pair;
 mod rom;
 mod single;
+mod slot;
 
 pub use memory::Memory;
 pub use memory::MemoryBank;
 pub use memory::MemoryPlain;
+pub use pair::Pair;
+pub use pair::PairBank;
+pub use pair::PairPlain;
+pub use rom::Rom;
+pub use rom::RomBank;
+pub use rom::RomPlain;
+pub use slot::Slot;
+pub use slot::SlotBank;
+pub use slot::SlotPlain;

@@ -1,14 +1,19 @@
-// A drive over bytes that the caller lends.
+// A drive over bytes that the caller lends, with lists of the sectors that can't be read or written.
 ghost use denote.Ref.{now};
 ghost use mathlib.Core.Path.{_≡_};
-ghost use Prim.Native.Nat.{_+_, _*_, _/_, _^_, _≤_, _<_, min};
+ghost use Prim.Native.Nat.{_/_, _^_, min};
 ghost use lib.ListN.{length};
-ghost use Rattle.drives.specs.Single.{one-drive, memory};
+ghost use Rattle.bank.specs.Shapes.{one-drive};
+ghost use Rattle.drives.specs.Disks.{memory, Bytes};
+ghost use Rattle.drives.specs.Laws.{memory-lawful};
 use super::single;
 use bank::Bank;
 use bank::Cause;
 use bank::Plain;
 use bank::Source;
+
+// The most sectors that a drive has, however many bytes there are.
+const LONGEST: u64 = 1 << 40;
 
 #[derive(Drop)]
 pub struct Memory<'a> {
@@ -18,9 +23,12 @@ pub struct Memory<'a> {
 }
 
 impl<'a> Memory<'a> {
+    // A drive of the whole sectors in `bytes`. The first 8 entries of each list are its bad sectors.
     pub fn new(bytes: &'a mut [u8], unreadable: &'a [u64], unwritable: &'a [u64]) -> Memory<'a>
-        ensures { λ r. ⌜ one-drive (memory (now (r .bytes)) (now (r .unreadable)) (now (r .unwritable))) ≡ one-drive (memory (now (bytes .entry)) (now (unreadable .entry)) (now (unwritable .entry))) ⌝ }
+        ensures meaning { λ r. ⌜ one-drive (memory (now (r .bytes)) (now (r .unreadable)) (now (r .unwritable))) ≡ one-drive (memory (now (bytes .entry)) (now (unreadable .entry)) (now (unwritable .entry))) ⌝ }
+        ensures stands { λ r. ⌜ Bytes (now (r .bytes)) ⌝ }
     {
+        let _ = sectors_in(bytes);
         Memory {
             bytes,
             unreadable,
@@ -31,15 +39,24 @@ impl<'a> Memory<'a> {
     fn sectors(&self) -> u64
         ensures { λ r. ⌜ r ≡ min (length (now (now (self .entry) .bytes)) / 512) (2 ^ 40) ⌝ }
     {
-        let whole = self.bytes.len() / single::SECTOR;
-        (whole as u64).min(1 << 40)
+        sectors_in(self.bytes)
     }
+}
+
+fn sectors_in(bytes: &[u8]) -> u64
+    ensures value { λ r. ⌜ r ≡ min (length (now (bytes .entry)) / 512) (2 ^ 40) ⌝ }
+    ensures bytes { λ _. ⌜ Bytes (now (bytes .entry)) ⌝ }
+{
+    let whole = bytes.len() / single::SECTOR;
+    (whole as u64).min(LONGEST)
 }
 
 pub impl Bank for Memory<'_> as MemoryBank {
     ghost meaning = { λ m. one-drive (memory (now (m .bytes)) (now (m .unreadable)) (now (m .unwritable))) };
 
-    ghost stands = { λ _. Unit {0} };
+    ghost stands = { λ m. Bytes (now (m .bytes)) };
+
+    ghost lawful = { λ m h. memory-lawful (now (m .bytes)) (now (m .unreadable)) (now (m .unwritable)) h };
 
     fn count(&self) -> u8 {
         1

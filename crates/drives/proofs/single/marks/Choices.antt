@@ -1,6 +1,6 @@
 use mathlib.Core.Path.{_≡_}
 use lib.ListN.{drop}
-use Rattle.drives.specs.Single.{listed}
+use Rattle.drives.specs.Disks.{listed}
 use Rattle.drives.proofs.single.marks.Given as given
 
 abbrev pub Inv-loop-marked : given.InvT-loop-marked
