@@ -5,6 +5,12 @@ mod source;
 mod traits;
 
 pub use cause::Cause;
+pub use cause::CauseDebug;
+pub use cause::CauseEq;
+pub use cause::CausePartialEq;
 pub use source::Source;
+pub use source::SourceDebug;
+pub use source::SourceEq;
+pub use source::SourcePartialEq;
 pub use traits::Bank;
 pub use traits::Plain;
