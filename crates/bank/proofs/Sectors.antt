@@ -9,14 +9,7 @@ use lib.ListN.{length, getD, take, drop, replicate, length-append}
 use Rattle.std.proofs.shelf.Lists.{length-take, length-drop, length-take-le, getD-take, getD-drop, getD-append-left, getD-append-right, getD-replicate, length-replicate, same-lists, drop-drop, take-all}
 use Rattle.std.proofs.shelf.Tests.{cases-lt}
 use Rattle.bank.specs.Meaning.{Sector}
-
--- the sector s of some bytes
-abbrev pub cut : List ℕ → ℕ → List ℕ
-cut all s = take 512 (drop (s * 512) all)
-
--- the bytes with another sector s
-abbrev pub with-sector : List ℕ → ℕ → List ℕ → List ℕ
-with-sector all s bs = take (s * 512) all ++ (bs ++ drop (s * 512 + 512) all)
+use Rattle.bank.specs.Shapes.{cut, with-sector}
 
 pub filled-sector : (s : ℕ) → s < 256 → Sector (replicate 512 s)
 filled-sector s h = record { long = length-replicate 512 s; small = λ k l. rw (getD-replicate 512 k s 0 l) h }
@@ -50,8 +43,9 @@ module _ (all : List ℕ) (s : ℕ) (h : s < length all / 512) where
     with-at-back : (k d : ℕ) → s * 512 + 512 ≤ k → getD (with-sector all s bs) k d ≡ getD all k d
     with-at-back k d l =
         getD-append-right _ _ (s * 512) k d front (omega arith)
-        ∙ getD-append-right bs (drop (s * 512 + 512) all) 512 (k - s * 512) d full (omega arith)
-        ∙ getD-drop (s * 512 + 512) all (k - s * 512 - 512) d
+        ∙ getD-append-right bs (drop 512 (drop (s * 512) all)) 512 (k - s * 512) d full (omega arith)
+        ∙ getD-drop 512 (drop (s * 512) all) (k - s * 512 - 512) d
+        ∙ getD-drop (s * 512) all (512 + (k - s * 512 - 512)) d
         ∙ ap (λ n. getD all n d) (omega arith)
 
     pub with-sector-there : cut (with-sector all s bs) s ≡ bs

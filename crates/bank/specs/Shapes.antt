@@ -1,13 +1,20 @@
 -- Meanings of plain banks: one drive alone, two banks side by side, and no drive at all.
 use mathlib.Core.Bool.{Bool, cond, _&&_}
 use mathlib.Core.List.{List, [], _∷_, _++_, map}
-use Prim.Native.Nat.{ℕ, min, _+_, _-_}
+use Prim.Native.Nat.{ℕ, min, _+_, _-_, _*_}
 use lib.Dec.{eqb, leb, ltb}
-use lib.ListN.{replicate}
+use lib.ListN.{take, drop, replicate}
 use Rattle.bank.specs.Due.{first-due}
 use Rattle.bank.specs.Meaning.{Cell, at, ReadEnd, cell, zeros, unread, WriteEnd, cells, unwritten, Meaning}
 use Rattle.std.specs.declared.option.Option.{Option}
 use Rattle.std.specs.declared.option.Option.the-variants.{Some, None}
+
+-- Bytes hold sectors one behind another: the sector s of some bytes, and the bytes with another sector s.
+abbrev pub cut : List ℕ → ℕ → List ℕ
+cut all s = take 512 (drop (s * 512) all)
+
+abbrev pub with-sector : List ℕ → ℕ → List ℕ → List ℕ
+with-sector all s bs = take (s * 512) all ++ (bs ++ drop 512 (drop (s * 512) all))
 
 -- One drive: its length, its bad sectors and the bytes of each sector.
 pub record Disk : Type 0 where

@@ -1,25 +1,15 @@
 -- A memory drive before and after a write to one of its sectors.
-use mathlib.Core.Path.{_≡_, refl, sym, ap, _∙_}
-use mathlib.Core.List.{List, [], _∷_, _++_}
-use Prim.Native.Nat.{ℕ, min, _+_, _-_, _*_, _/_, _^_, _<_}
+use mathlib.Core.Path.{_≡_, refl, ap}
+use mathlib.Core.List.{List, [], _∷_}
+use Prim.Native.Nat.{ℕ, min, _/_, _^_, _<_}
 use native.Mathlib.Omega.{arith}
-use lib.ListN.{length, take, drop}
-use borrow.Rule.Slice.PartMut.{putMid}
-use Rattle.std.proofs.shelf.Lists.{drop-drop}
+use lib.ListN.{length}
 use Rattle.bank.specs.Meaning.{at, Stored}
-use Rattle.bank.specs.Shapes.{one-drive}
-use Rattle.bank.proofs.Sectors.{with-sector, with-sector-length, with-sector-there, with-sector-elsewhere, with-sector-bytes}
+use Rattle.bank.specs.Shapes.{one-drive, with-sector}
+use Rattle.bank.proofs.Sectors.{with-sector-length, with-sector-there, with-sector-elsewhere, with-sector-bytes}
 use Rattle.bank.proofs.Shapes.{Free}
 use Rattle.bank.proofs.Stores.{Rewritten, one-drive-stored}
 use Rattle.drives.specs.Disks.{memory, Bytes}
-
-abbrev pub put : List ℕ → ℕ → List ℕ → List ℕ
-put all s bs = putMid (s * 512) (s * 512 + 512 - s * 512) all bs
-
-put-is : (all bs : List ℕ) (s : ℕ) → put all s bs ≡ with-sector all s bs
-put-is all bs s =
-    let k : s * 512 + 512 - s * 512 ≡ 512 = omega arith in
-    ap (λ n. take (s * 512) all ++ (bs ++ drop n (drop (s * 512) all))) k ∙ ap (λ t. take (s * 512) all ++ (bs ++ t)) (drop-drop 512 (s * 512) all)
 
 module _ (all u w bs : List ℕ) (s : ℕ) (h : s < min (length all / 512) (2 ^ 40)) (full : length bs ≡ 512) where
   inside : s < length all / 512
@@ -35,11 +25,10 @@ module _ (all u w bs : List ℕ) (s : ℕ) (h : s < min (length all / 512) (2 ^ 
     elsewhere = λ t l ne. with-sector-elsewhere all s inside bs full t ne;
   }
 
--- what a write of bs leaves, where ys is what the part of the slice then holds
-module _ (all u w ys bs : List ℕ) (d s : ℕ) (f : Free (memory all u w) d s) (full : length bs ≡ 512) (e : ys ≡ bs) where
-  pub memory-stored : Stored (one-drive (memory all u w)) (one-drive (memory (put all s ys) u w)) (at d s ∷ []) bs
-  memory-stored =
-      rw (e, put-is all bs s, f .first) (one-drive-stored _ _ s bs (rewritten all u w bs s (f .within) full))
+-- what a write of bs leaves, where the bytes then are `after`
+module _ (all u w after bs : List ℕ) (d s : ℕ) (f : Free (memory all u w) d s) (full : length bs ≡ 512) (e : after ≡ with-sector all s bs) where
+  pub memory-stored : Stored (one-drive (memory all u w)) (one-drive (memory after u w)) (at d s ∷ []) bs
+  memory-stored = rw (e, f .first) (one-drive-stored _ _ s bs (rewritten all u w bs s (f .within) full))
 
-  pub memory-bytes : Bytes all → Bytes bs → Bytes (put all s ys)
-  memory-bytes a b = rw (e, put-is all bs s) (with-sector-bytes all s (inside all u w bs s (f .within) full) bs full a b)
+  pub memory-bytes : Bytes all → Bytes bs → Bytes after
+  memory-bytes a b = rw e (with-sector-bytes all s (inside all u w bs s (f .within) full) bs full a b)

@@ -1,10 +1,10 @@
 -- The drives of this crate: what each has on its sectors, and which of them are bad.
 use mathlib.Core.Bool.{Bool, true, false, _||_}
 use mathlib.Core.List.{List, [], _∷_}
-use Prim.Native.Nat.{ℕ, min, _*_, _/_, _^_, _<_}
+use Prim.Native.Nat.{ℕ, min, _/_, _^_, _<_}
 use lib.Dec.{eqb}
-use lib.ListN.{length, getD, take, drop, replicate}
-use Rattle.bank.specs.Shapes.{Disk}
+use lib.ListN.{length, getD, take, replicate}
+use Rattle.bank.specs.Shapes.{Disk, cut}
 
 -- whether a number stands in a list
 abbrev pub listed : ℕ → List ℕ → Bool
@@ -17,7 +17,7 @@ memory all unreadable unwritable = record {
   sectors = min (length all / 512) (2 ^ 40);
   unreadable = λ s. listed s (take 8 unreadable);
   unwritable = λ s. listed s (take 8 unwritable);
-  bytes = λ s. take 512 (drop (s * 512) all);
+  bytes = cut all;
 }
 
 -- A drive that can only be read: at most 256 sectors, and every byte of sector s is s.

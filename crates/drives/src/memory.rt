@@ -1,9 +1,9 @@
 // A drive over bytes that the caller lends, with lists of the sectors that can't be read or written.
 ghost use denote.Ref.{now};
 ghost use mathlib.Core.Path.{_≡_};
-ghost use Prim.Native.Nat.{_/_, _^_, min};
+ghost use Prim.Native.Nat.{_/_, _^_, _<_, min};
 ghost use lib.ListN.{length};
-ghost use Rattle.bank.specs.Shapes.{one-drive};
+ghost use Rattle.bank.specs.Shapes.{one-drive, cut, with-sector};
 ghost use Rattle.drives.specs.Disks.{memory, Bytes};
 ghost use Rattle.drives.specs.Laws.{memory-lawful};
 use super::single;
@@ -51,6 +51,26 @@ fn sectors_in(bytes: &[u8]) -> u64
     (whole as u64).min(LONGEST)
 }
 
+// Copies a sector that the bytes have into a place of its size.
+fn load(all: &[u8], sector: u64, place: &mut [u8])
+    requires within { ⌜ sector < length (now all) / 512 ⌝ }
+    requires sized { ⌜ length (now place) ≡ 512 ⌝ }
+    ensures { λ _. ⌜ now (place .exit) ≡ cut (now (all .entry)) sector ⌝ }
+{
+    let start = sector as usize * single::SECTOR;
+    place.copy_from_slice(&all[start..start + single::SECTOR]);
+}
+
+// Copies 512 bytes over a sector that the bytes have.
+fn store(all: &mut [u8], sector: u64, data: &[u8])
+    requires within { ⌜ sector < length (now all) / 512 ⌝ }
+    requires sized { ⌜ length (now «data») ≡ 512 ⌝ }
+    ensures { λ _. ⌜ now (all .exit) ≡ with-sector (now (all .entry)) sector (now («data» .entry)) ⌝ }
+{
+    let start = sector as usize * single::SECTOR;
+    all[start..start + single::SECTOR].copy_from_slice(data);
+}
+
 pub impl Bank for Memory<'_> as MemoryBank {
     ghost meaning = { λ m. one-drive (memory (now (m .bytes)) (now (m .unreadable)) (now (m .unwritable))) };
 
@@ -89,8 +109,7 @@ pub impl Bank for Memory<'_> as MemoryBank {
             return Err(Cause::WrongSize);
         }
         let source = self.read_end(drive, sector)?;
-        let start = sector as usize * single::SECTOR;
-        place.copy_from_slice(&self.bytes[start..start + single::SECTOR]);
+        load(self.bytes, sector, place);
         Ok(source)
     }
 
@@ -101,9 +120,7 @@ pub impl Bank for Memory<'_> as MemoryBank {
         if let Some(cause) = self.write_cause(drive, sector) {
             return Err(cause);
         }
-        let start = sector as usize * single::SECTOR;
-        self.bytes[start..start + single::SECTOR]
-            .copy_from_slice(bytes);
+        store(self.bytes, sector, bytes);
         Ok(())
     }
 }

@@ -1,7 +1,11 @@
 // Two plain banks side by side: the left one's drives first, then the right one's, 64 in all at the most.
 ghost use denote.Ref.{now};
 ghost use mathlib.Core.Path.{_≡_};
+ghost use Prim.Native.Nat.{_≤_, _<_};
+ghost use lib.ListN.{length};
+ghost use Rattle.bank.specs.Meaning.{Stored, cause-of, cells-of, write-due};
 ghost use Rattle.bank.specs.Shapes.{beside, both-drives};
+ghost use Rattle.bank.specs.Told.{told-write};
 ghost use Rattle.bank.proofs.Shapes.{beside-lawful};
 ghost use Rattle.drives.specs.Sides.{Placed};
 use super::single;
@@ -53,6 +57,30 @@ impl<L: Plain, R: Plain> Pair<L, R> {
         } else {
             Side::Right(drive - left)
         }
+    }
+
+    // A write to a drive of the left bank, and to one of the right bank.
+    fn write_left(&mut self, drive: u8, sector: u64, bytes: &[u8]) -> Result<(), Cause>
+        requires shown { ⌜ drive < both-drives (L·Bank .meaning (now self .left)) (R·Bank .meaning (now self .right)) ⌝ }
+        requires placed { ⌜ drive < L·Bank .meaning (now self .left) .drives ⌝ }
+        requires sized { ⌜ length (now bytes) ≡ 512 ⌝ }
+        ensures answer { λ r. ⌜ told-write r ≡ cause-of (write-due (beside (L·Bank .meaning (now (self .entry) .left)) (R·Bank .meaning (now (self .entry) .right))) drive sector (length (now (bytes .entry)))) ⌝ }
+        ensures after { λ _. ⌜ Stored (beside (L·Bank .meaning (now (self .entry) .left)) (R·Bank .meaning (now (self .entry) .right))) (beside (L·Bank .meaning (now (self .exit) .left)) (R·Bank .meaning (now (self .exit) .right))) (cells-of (write-due (beside (L·Bank .meaning (now (self .entry) .left)) (R·Bank .meaning (now (self .entry) .right))) drive sector (length (now (bytes .entry))))) (now (bytes .entry)) ⌝ }
+        ensures kept { λ _. ⌜ (L·Bank .stands (now (self .entry) .left) × R·Bank .stands (now (self .entry) .right) → L·Bank .stands (now (self .exit) .left) × R·Bank .stands (now (self .exit) .right)) ⌝ }
+    {
+        self.left.write(drive, sector, bytes)
+    }
+
+    fn write_right(&mut self, drive: u8, sector: u64, bytes: &[u8]) -> Result<(), Cause>
+        requires shown { ⌜ drive < both-drives (L·Bank .meaning (now self .left)) (R·Bank .meaning (now self .right)) ⌝ }
+        requires placed { ⌜ L·Bank .meaning (now self .left) .drives ≤ drive ⌝ }
+        requires sized { ⌜ length (now bytes) ≡ 512 ⌝ }
+        ensures answer { λ r. ⌜ told-write r ≡ cause-of (write-due (beside (L·Bank .meaning (now (self .entry) .left)) (R·Bank .meaning (now (self .entry) .right))) drive sector (length (now (bytes .entry)))) ⌝ }
+        ensures after { λ _. ⌜ Stored (beside (L·Bank .meaning (now (self .entry) .left)) (R·Bank .meaning (now (self .entry) .right))) (beside (L·Bank .meaning (now (self .exit) .left)) (R·Bank .meaning (now (self .exit) .right))) (cells-of (write-due (beside (L·Bank .meaning (now (self .entry) .left)) (R·Bank .meaning (now (self .entry) .right))) drive sector (length (now (bytes .entry))))) (now (bytes .entry)) ⌝ }
+        ensures kept { λ _. ⌜ (L·Bank .stands (now (self .entry) .left) × R·Bank .stands (now (self .entry) .right) → L·Bank .stands (now (self .exit) .left) × R·Bank .stands (now (self .exit) .right)) ⌝ }
+    {
+        let there = drive - self.left.count();
+        self.right.write(there, sector, bytes)
     }
 }
 
@@ -114,8 +142,8 @@ pub impl<L: Plain, R: Plain> Bank for Pair<L, R> as PairBank {
             return Err(Cause::WrongSize);
         }
         match self.side(drive) {
-            Side::Left => self.left.write(drive, sector, bytes),
-            Side::Right(there) => self.right.write(there, sector, bytes),
+            Side::Left => self.write_left(drive, sector, bytes),
+            Side::Right(_) => self.write_right(drive, sector, bytes),
             Side::Neither => Err(Cause::NoDrive),
         }
     }

@@ -1,7 +1,10 @@
 // A drive that can only be read: every byte of its sector n is n.
 ghost use mathlib.Core.Path.{_≡_};
 ghost use Prim.Native.Nat.{min};
+ghost use Rattle.std.specs.declared.option.Option.the-variants.{Some};
+ghost use Rattle.bank.specs.Meaning.{cause-of, write-due};
 ghost use Rattle.bank.specs.Shapes.{one-drive};
+ghost use Rattle.bank.specs.Told.{number-of};
 ghost use Rattle.drives.specs.Disks.{rom};
 ghost use Rattle.drives.specs.Laws.{rom-lawful};
 use super::single;
@@ -31,6 +34,19 @@ impl Rom {
         ensures { λ r. ⌜ r ≡ min (now (self .entry) .asked) 256 ⌝ }
     {
         self.asked.min(MOST)
+    }
+
+    // Why a write of that many bytes is refused, as every write is.
+    fn refusal(&self, drive: u8, sector: u64, size: usize) -> Cause
+        ensures { λ r. ⌜ Some (number-of r) ≡ cause-of (write-due (one-drive (rom (now (self .entry) .asked))) drive sector size) ⌝ }
+    {
+        if size != single::SECTOR {
+            return Cause::WrongSize;
+        }
+        match single::locate(drive, sector, self.sectors()) {
+            Ok(()) => Cause::Unwritable,
+            Err(cause) => cause,
+        }
     }
 }
 
@@ -71,13 +87,7 @@ pub impl Bank for Rom as RomBank {
     }
 
     fn write(&mut self, drive: u8, sector: u64, bytes: &[u8]) -> Result<(), Cause> {
-        if bytes.len() != single::SECTOR {
-            return Err(Cause::WrongSize);
-        }
-        match single::locate(drive, sector, self.sectors()) {
-            Ok(()) => Err(Cause::Unwritable),
-            Err(cause) => Err(cause),
-        }
+        Err(self.refusal(drive, sector, bytes.len()))
     }
 }
 

@@ -1,7 +1,4 @@
-use mathlib.Core.Path.{_≡_, sym, ap, _∙_}
-use Prim.Native.Nat.{_+_, _-_, _*_}
-use native.Mathlib.Omega.{arith}
-use lib.ListN.{take, drop}
+use mathlib.Core.Path.{sym, ap, _∙_}
 use Rattle.bank.specs.Meaning.{filled, refusal}
 use Rattle.bank.specs.Shapes.{one-drive}
 use Rattle.bank.proofs.Dues.{read-sized, source-free}
@@ -16,10 +13,7 @@ returns c =
     let told = c .in-Continue-source .ensures tt in
     let f = readable k (c .args .drive) (c .args .sector) (sym (ap refusal told) ∙ source-free (c .in-Continue-source .source)) in
     let due = read-sized (one-drive k) (c .args .drive) (c .args .sector) _ (c .if-place-ne-SECTOR .left) in
-    let start = c .args .sector * 512 in
-    let long : start + 512 - start ≡ 512 = omega arith in
-    let cut = ap (λ n. take n (drop start (m .bytes .now))) long in
     record {
       answer = told ∙ sym due;
-      holds = c .copy-from-slice .ensures .after ∙ cut ∙ sym (f .0 .held) ∙ sym (ap (λ e. filled (one-drive k) e (c .args .place .now)) (due ∙ f .1));
+      holds = c .load .ensures ∙ sym (f .0 .held) ∙ sym (ap (λ e. filled (one-drive k) e (c .args .place .now)) (due ∙ f .1));
     }

@@ -26,9 +26,9 @@ returns c =
     let f = writable k (c .args .drive) (c .args .sector) (sym (c .in-rest .ensures tt)) in
     let full = c .if-bytes-ne-SECTOR .left in
     let due = write-sized (one-drive k) (c .args .drive) (c .args .sector) _ full ∙ f .1 in
-    let copied = c .copy-from-slice .ensures .after in
+    let stored = c .store .ensures in
     rw due (record {
       answer = refl;
-      after = memory-stored (m .bytes .now) (m .unreadable .now) (m .unwritable .now) _ _ _ _ (f .0) full copied;
-      kept = λ h. memory-bytes (m .bytes .now) (m .unreadable .now) (m .unwritable .now) _ _ _ _ (f .0) full copied h (λ k. c .typed .bytes k .fits);
+      after = memory-stored (m .bytes .now) (m .unreadable .now) (m .unwritable .now) _ _ _ _ (f .0) full stored;
+      kept = λ h. memory-bytes (m .bytes .now) (m .unreadable .now) (m .unwritable .now) _ _ _ _ (f .0) full stored h (λ k. c .typed .bytes k .fits);
     })
