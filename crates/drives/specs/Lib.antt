@@ -1,4 +1,3 @@
 pub mod Disks
-pub mod Laws
+pub mod Means
 pub mod Sides
-pub mod Slots

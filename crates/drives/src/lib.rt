@@ -3,7 +3,6 @@ mod memory;
 mod pair;
 mod rom;
 mod single;
-mod slot;
 
 pub use memory::Memory;
 pub use memory::MemoryBank;
@@ -14,6 +13,3 @@ pub use pair::PairPlain;
 pub use rom::Rom;
 pub use rom::RomBank;
 pub use rom::RomPlain;
-pub use slot::Slot;
-pub use slot::SlotBank;
-pub use slot::SlotPlain;

@@ -1,11 +1,10 @@
 // A drive over bytes that the caller lends, with lists of the sectors that can't be read or written.
-ghost use denote.Ref.{now};
 ghost use mathlib.Core.Path.{_≡_};
 ghost use Prim.Native.Nat.{_/_, _^_, _<_, min};
 ghost use lib.ListN.{length};
 ghost use Rattle.bank.specs.Shapes.{one-drive, cut, with-sector};
 ghost use Rattle.drives.specs.Disks.{memory, Bytes};
-ghost use Rattle.drives.specs.Laws.{memory-lawful};
+ghost use Rattle.drives.specs.Means.{memory-means, MemoryStands, memory-lawful};
 use super::single;
 use bank::Bank;
 use bank::Cause;
@@ -25,9 +24,10 @@ pub struct Memory<'a> {
 impl<'a> Memory<'a> {
     // A drive of the whole sectors in `bytes`. The first 8 entries of each list are its bad sectors.
     pub fn new(bytes: &'a mut [u8], unreadable: &'a [u64], unwritable: &'a [u64]) -> Memory<'a>
-        ensures meaning { λ r. ⌜ one-drive (memory (now (r .bytes)) (now (r .unreadable)) (now (r .unwritable))) ≡ one-drive (memory (now (bytes .entry)) (now (unreadable .entry)) (now (unwritable .entry))) ⌝ }
-        ensures stands { λ r. ⌜ Bytes (now (r .bytes)) ⌝ }
+        ensures meaning { λ r. ⌜ memory-means r ≡ one-drive (memory (now (bytes .entry)) (now (unreadable .entry)) (now (unwritable .entry))) ⌝ }
+        ensures stands { λ r. ⌜ MemoryStands r ⌝ }
     {
+        // Its second promise is what lets the drive stand.
         let _ = sectors_in(bytes);
         Memory {
             bytes,
@@ -43,6 +43,7 @@ impl<'a> Memory<'a> {
     }
 }
 
+// The whole sectors in some bytes, at most 2^40. A slice that was looked at is known to hold bytes.
 fn sectors_in(bytes: &[u8]) -> u64
     ensures value { λ r. ⌜ r ≡ min (length (now (bytes .entry)) / 512) (2 ^ 40) ⌝ }
     ensures bytes { λ _. ⌜ Bytes (now (bytes .entry)) ⌝ }
@@ -72,11 +73,11 @@ fn store(all: &mut [u8], sector: u64, data: &[u8])
 }
 
 pub impl Bank for Memory<'_> as MemoryBank {
-    ghost meaning = { λ m. one-drive (memory (now (m .bytes)) (now (m .unreadable)) (now (m .unwritable))) };
+    ghost meaning = { memory-means };
 
-    ghost stands = { λ m. Bytes (now (m .bytes)) };
+    ghost stands = { MemoryStands };
 
-    ghost lawful = { λ m h. memory-lawful (now (m .bytes)) (now (m .unreadable)) (now (m .unwritable)) h };
+    ghost lawful = { memory-lawful };
 
     fn count(&self) -> u8 {
         1

@@ -6,7 +6,7 @@ ghost use Rattle.bank.specs.Meaning.{cause-of, write-due};
 ghost use Rattle.bank.specs.Shapes.{one-drive};
 ghost use Rattle.bank.specs.Told.{number-of};
 ghost use Rattle.drives.specs.Disks.{rom};
-ghost use Rattle.drives.specs.Laws.{rom-lawful};
+ghost use Rattle.drives.specs.Means.{rom-means, RomStands, rom-lawful};
 use super::single;
 use bank::Bank;
 use bank::Cause;
@@ -25,7 +25,8 @@ pub struct Rom {
 impl Rom {
     // A drive of that many sectors, or of 256 where more are asked for.
     pub fn new(sectors: u64) -> Rom
-        ensures { λ r. ⌜ one-drive (rom (r .asked)) ≡ one-drive (rom sectors) ⌝ }
+        ensures meaning { λ r. ⌜ rom-means r ≡ one-drive (rom sectors) ⌝ }
+        ensures stands { λ r. ⌜ RomStands r ⌝ }
     {
         Rom { asked: sectors }
     }
@@ -38,7 +39,7 @@ impl Rom {
 
     // Why a write of that many bytes is refused, as every write is.
     fn refusal(&self, drive: u8, sector: u64, size: usize) -> Cause
-        ensures { λ r. ⌜ Some (number-of r) ≡ cause-of (write-due (one-drive (rom (now (self .entry) .asked))) drive sector size) ⌝ }
+        ensures { λ r. ⌜ Some (number-of r) ≡ cause-of (write-due (rom-means (now (self .entry))) drive sector size) ⌝ }
     {
         if size != single::SECTOR {
             return Cause::WrongSize;
@@ -51,11 +52,11 @@ impl Rom {
 }
 
 pub impl Bank for Rom as RomBank {
-    ghost meaning = { λ r. one-drive (rom (r .asked)) };
+    ghost meaning = { rom-means };
 
-    ghost stands = { λ _. Unit {0} };
+    ghost stands = { RomStands };
 
-    ghost lawful = { λ r _. rom-lawful (r .asked) };
+    ghost lawful = { rom-lawful };
 
     fn count(&self) -> u8 {
         1

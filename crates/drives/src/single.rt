@@ -1,11 +1,10 @@
 // What the banks of one drive share: which sectors there are, and a list's first entries.
 ghost use mathlib.Core.Path.{_≡_};
-ghost use mathlib.Core.Bool.{cond};
-ghost use lib.Dec.{eqb};
+ghost use Prim.Native.Nat.{min};
 ghost use lib.ListN.{take};
 ghost use Rattle.bank.specs.Due.{first-due};
 ghost use Rattle.bank.specs.Shapes.{place-causes};
-ghost use Rattle.bank.specs.Told.{number-of, told-write};
+ghost use Rattle.bank.specs.Told.{told-write};
 ghost use Rattle.drives.specs.Disks.{listed};
 use bank::Cause;
 
@@ -28,26 +27,22 @@ pub fn locate(drive: u8, sector: u64, sectors: u64) -> Result<(), Cause>
     Ok(())
 }
 
+// How many entries count of a list of that length.
+fn counted(length: usize) -> usize
+    ensures { λ r. ⌜ r ≡ min length 8 ⌝ }
+{
+    length.min(MARKED)
+}
+
 // Whether a sector is among a list's first 8 entries.
 pub fn marks(list: &[u64], sector: u64) -> bool
     ensures { λ r. ⌜ r ≡ listed sector (take 8 (now (list .entry))) ⌝ }
 {
-    let first = &list[0..list.len().min(MARKED)];
+    let first = &list[0..counted(list.len())];
     for marked in first {
         if *marked == sector {
             return true;
         }
     }
     false
-}
-
-// The cause of a drive that is absent, at a place or data of that many bytes.
-pub fn absent(length: usize) -> Cause
-    ensures { λ r. ⌜ number-of r ≡ cond (eqb length 512) 1 8 ⌝ }
-{
-    if length == SECTOR {
-        Cause::NoDrive
-    } else {
-        Cause::WrongSize
-    }
 }

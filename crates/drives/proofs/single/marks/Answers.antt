@@ -9,8 +9,8 @@ loop-marked-again c =
 
 pub returns-then-marked-sector : need.returns-then-marked-sector
 returns-then-marked-sector c =
-    sym (listed-here (c .args .sector) _ (c .loop-marked .marked-index) (c .loop-marked-test .taken) (c .if-marked-sector .taken)) ∙ c .loop-marked .inv ∙ ap (listed (c .args .sector)) (first-entries (c .args .list .now) 8 (c .min .result) (c .min .ensures))
+    sym (listed-here (c .args .sector) _ (c .loop-marked .marked-index) (c .loop-marked-test .taken) (c .if-marked-sector .taken)) ∙ c .loop-marked .inv ∙ ap (listed (c .args .sector)) (first-entries (c .args .list .now) 8 (c .counted .result) (c .counted .ensures))
 
 pub returns : need.returns
 returns c =
-    sym (listed-end (c .args .sector) _ (c .loop-marked .marked-index) (c .loop-marked-test .left)) ∙ c .loop-marked .inv ∙ ap (listed (c .args .sector)) (first-entries (c .args .list .now) 8 (c .min .result) (c .min .ensures))
+    sym (listed-end (c .args .sector) _ (c .loop-marked .marked-index) (c .loop-marked-test .left)) ∙ c .loop-marked .inv ∙ ap (listed (c .args .sector)) (first-entries (c .args .list .now) 8 (c .counted .result) (c .counted .ensures))
