@@ -14,3 +14,6 @@ pub use source::SourceEq;
 pub use source::SourcePartialEq;
 pub use traits::Bank;
 pub use traits::Plain;
+
+// The bytes of a sector.
+pub const SECTOR: usize = 512;

@@ -1,2 +1,3 @@
 mod Listed
+pub mod Plain
 mod Written

@@ -1,3 +1,2 @@
 pub mod Disks
 pub mod Means
-pub mod Sides

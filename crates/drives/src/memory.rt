@@ -9,6 +9,7 @@ use super::single;
 use bank::Bank;
 use bank::Cause;
 use bank::Plain;
+use bank::SECTOR;
 use bank::Source;
 
 // The most sectors that a drive has, however many bytes there are.
@@ -48,7 +49,7 @@ fn sectors_in(bytes: &[u8]) -> u64
     ensures value { λ r. ⌜ r ≡ min (length (now (bytes .entry)) / 512) (2 ^ 40) ⌝ }
     ensures bytes { λ _. ⌜ Bytes (now (bytes .entry)) ⌝ }
 {
-    let whole = bytes.len() / single::SECTOR;
+    let whole = bytes.len() / SECTOR;
     (whole as u64).min(LONGEST)
 }
 
@@ -58,8 +59,8 @@ fn load(all: &[u8], sector: u64, place: &mut [u8])
     requires sized { ⌜ length (now place) ≡ 512 ⌝ }
     ensures { λ _. ⌜ now (place .exit) ≡ cut (now (all .entry)) sector ⌝ }
 {
-    let start = sector as usize * single::SECTOR;
-    place.copy_from_slice(&all[start..start + single::SECTOR]);
+    let start = sector as usize * SECTOR;
+    place.copy_from_slice(&all[start..start + SECTOR]);
 }
 
 // Copies 512 bytes over a sector that the bytes have.
@@ -68,8 +69,8 @@ fn store(all: &mut [u8], sector: u64, data: &[u8])
     requires sized { ⌜ length (now «data») ≡ 512 ⌝ }
     ensures { λ _. ⌜ now (all .exit) ≡ with-sector (now (all .entry)) sector (now («data» .entry)) ⌝ }
 {
-    let start = sector as usize * single::SECTOR;
-    all[start..start + single::SECTOR].copy_from_slice(data);
+    let start = sector as usize * SECTOR;
+    all[start..start + SECTOR].copy_from_slice(data);
 }
 
 pub impl Bank for Memory<'_> as MemoryBank {
@@ -106,7 +107,7 @@ pub impl Bank for Memory<'_> as MemoryBank {
     }
 
     fn read(&self, drive: u8, sector: u64, place: &mut [u8]) -> Result<Source, Cause> {
-        if place.len() != single::SECTOR {
+        if place.len() != SECTOR {
             return Err(Cause::WrongSize);
         }
         let source = self.read_end(drive, sector)?;
@@ -115,7 +116,7 @@ pub impl Bank for Memory<'_> as MemoryBank {
     }
 
     fn write(&mut self, drive: u8, sector: u64, bytes: &[u8]) -> Result<(), Cause> {
-        if bytes.len() != single::SECTOR {
+        if bytes.len() != SECTOR {
             return Err(Cause::WrongSize);
         }
         if let Some(cause) = self.write_cause(drive, sector) {

@@ -11,6 +11,7 @@ use super::single;
 use bank::Bank;
 use bank::Cause;
 use bank::Plain;
+use bank::SECTOR;
 use bank::Source;
 
 // One sector for each value of a byte.
@@ -41,7 +42,7 @@ impl Rom {
     fn refusal(&self, drive: u8, sector: u64, size: usize) -> Cause
         ensures { λ r. ⌜ Some (number-of r) ≡ cause-of (write-due (rom-means (now (self .entry))) drive sector size) ⌝ }
     {
-        if size != single::SECTOR {
+        if size != SECTOR {
             return Cause::WrongSize;
         }
         match single::locate(drive, sector, self.sectors()) {
@@ -79,7 +80,7 @@ pub impl Bank for Rom as RomBank {
     }
 
     fn read(&self, drive: u8, sector: u64, place: &mut [u8]) -> Result<Source, Cause> {
-        if place.len() != single::SECTOR {
+        if place.len() != SECTOR {
             return Err(Cause::WrongSize);
         }
         let source = self.read_end(drive, sector)?;

@@ -8,9 +8,6 @@ ghost use Rattle.bank.specs.Told.{told-write};
 ghost use Rattle.drives.specs.Disks.{listed};
 use bank::Cause;
 
-// The bytes of a sector.
-pub const SECTOR: usize = 512;
-
 // How many entries of a list of bad sectors count.
 const MARKED: usize = 8;
 

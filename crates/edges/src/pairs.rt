@@ -12,12 +12,12 @@ use bank::SourcePartialEq;
 use drives::Memory;
 use drives::MemoryBank;
 use drives::MemoryPlain;
-use drives::Pair;
-use drives::PairBank;
-use drives::PairPlain;
 use drives::Rom;
 use drives::RomBank;
 use drives::RomPlain;
+use pair::Pair;
+use pair::PairBank;
+use pair::PairPlain;
 use std::test::*;
 
 #[test]

@@ -5,9 +5,8 @@ ghost use Rattle.edges.specs.Rack.{rack, rack-lawful};
 use bank::Bank;
 use bank::Cause;
 use bank::Plain;
+use bank::SECTOR;
 use bank::Source;
-
-const SECTOR: usize = 512;
 
 #[derive(Clone, Copy)]
 pub struct Rack {

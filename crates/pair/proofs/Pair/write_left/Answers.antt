@@ -1,6 +1,6 @@
 use mathlib.Core.Path.{_∙_}
 use Rattle.bank.proofs.Stores.{left-cause, left-write}
-use Rattle.drives.proofs.pair.Pair.write_left.Needs as need
+use Rattle.pair.proofs.Pair.write_left.Needs as need
 
 pub returns : need.returns
 returns g c =

@@ -7,11 +7,11 @@ ghost use Rattle.bank.specs.Meaning.{Stored, cause-of, cells-of, write-due};
 ghost use Rattle.bank.specs.Shapes.{beside, both-drives};
 ghost use Rattle.bank.specs.Told.{told-write};
 ghost use Rattle.bank.proofs.Shapes.{beside-lawful};
-ghost use Rattle.drives.specs.Sides.{Placed};
-use super::single;
+ghost use Rattle.pair.specs.Sides.{Placed};
 use bank::Bank;
 use bank::Cause;
 use bank::Plain;
+use bank::SECTOR;
 use bank::Source;
 
 // A bank shows no more drives than this.
@@ -123,7 +123,7 @@ pub impl<L: Plain, R: Plain> Bank for Pair<L, R> as PairBank {
     }
 
     fn read(&self, drive: u8, sector: u64, place: &mut [u8]) -> Result<Source, Cause> {
-        if place.len() != single::SECTOR {
+        if place.len() != SECTOR {
             return Err(Cause::WrongSize);
         }
         match self.side(drive) {
@@ -138,7 +138,7 @@ pub impl<L: Plain, R: Plain> Bank for Pair<L, R> as PairBank {
     }
 
     fn write(&mut self, drive: u8, sector: u64, bytes: &[u8]) -> Result<(), Cause> {
-        if bytes.len() != single::SECTOR {
+        if bytes.len() != SECTOR {
             return Err(Cause::WrongSize);
         }
         match self.side(drive) {

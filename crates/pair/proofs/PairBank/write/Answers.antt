@@ -1,6 +1,6 @@
 use Rattle.bank.specs.Shapes.{beside}
 use Rattle.bank.proofs.Stores.{unsized-write, refused-write, neither-cause}
-use Rattle.drives.proofs.pair.PairBank.write.Needs as need
+use Rattle.pair.proofs.PairBank.write.Needs as need
 
 pub returns-then-bytes-ne-SECTOR : need.returns-then-bytes-ne-SECTOR
 returns-then-bytes-ne-SECTOR g c =

@@ -3,7 +3,7 @@ use Prim.Native.Nat.{_-_}
 use lib.ListN.{length}
 use Rattle.bank.specs.Meaning.{cause-of, write-due}
 use Rattle.bank.proofs.Stores.{right-cause, right-write}
-use Rattle.drives.proofs.pair.Pair.write_right.Needs as need
+use Rattle.pair.proofs.Pair.write_right.Needs as need
 
 pub returns : need.returns
 returns g c =
