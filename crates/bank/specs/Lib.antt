@@ -1,4 +1,5 @@
 pub mod Due
 pub mod Meaning
 pub mod Shapes
+pub mod Shown
 pub mod Told

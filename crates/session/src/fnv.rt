@@ -1,0 +1,17 @@
+// The digest by which a script names the bytes of a buffer: 32-bit FNV-1a.
+ghost use mathlib.Core.Path.{_≡_};
+ghost use Rattle.session.specs.Digest.{fnv};
+
+const BASIS: u32 = 0x811c_9dc5;
+
+const PRIME: u32 = 0x0100_0193;
+
+pub fn digest(bytes: &[u8]) -> u32
+    ensures { λ r. ⌜ r ≡ fnv (now (bytes .entry)) ⌝ }
+{
+    let mut hash = BASIS;
+    for byte in bytes {
+        hash = (hash ^ u32::from(*byte)).wrapping_mul(PRIME);
+    }
+    hash
+}
