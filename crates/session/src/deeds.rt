@@ -7,11 +7,11 @@ ghost use Rattle.bank.specs.Meaning.{Stored};
 ghost use Rattle.session.specs.Performed.{told, due, got-into, reached, carried};
 ghost use Rattle.session.specs.Seed.{sown};
 ghost use Rattle.script.specs.declared.command.BankCommand.the-variants.{Get, Put};
-use script::BankCommand;
 use super::fnv::digest;
 use super::outcome::Outcome;
 use super::seed::sow;
 use bank::Bank;
+use script::BankCommand;
 use std::alloc::AllocError;
 use std::alloc::Global;
 

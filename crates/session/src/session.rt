@@ -5,10 +5,10 @@ ghost use Rattle.std.specs.Vec.{made};
 ghost use Rattle.session.specs.Outcomes.{accepted, outcome-text};
 ghost use Rattle.session.specs.Sessions.{latest-text, answered, judged};
 ghost use Rattle.session.specs.Tallies.{counted, none-yet};
-use script::Fault;
 use super::outcome::Outcome;
 use super::outcome::OutcomeDisplay;
 use super::tally::Tally;
+use script::Fault;
 use std::alloc::AllocError;
 use std::alloc::Global;
 

@@ -1,0 +1,5 @@
+use Rattle.script.specs.Rest.{left}
+use Rattle.luostagar.proofs.run.describe.Given as given
+
+abbrev pub μ-loop-command : given.MeasureT-loop-command
+μ-loop-command l = left (l .lines)

@@ -1,0 +1,140 @@
+// Runs one script: its drives first, and then the commands that ask the bank which they make.
+ghost use Prim.Native.Nat.{_<_};
+ghost use Rattle.std.specs.Options.{Cases};
+ghost use Rattle.std.specs.Vec.{made};
+ghost use Rattle.script.specs.Rest.{left};
+use super::layout::Four;
+use super::layout::Layout;
+use super::slot::SlotBank;
+use super::slot::SlotPlain;
+use bank::Bank;
+use pair::Pair;
+use pair::PairBank;
+use pair::PairPlain;
+use script::BankCommand;
+use script::Command;
+use script::Fault;
+use script::Line;
+use script::Lines;
+use session::Outcome;
+use session::OutcomeDisplay;
+use session::Session;
+use session::TallyDisplay;
+use session::perform;
+use std::alloc::AllocError;
+use std::io;
+
+// What ends a run before its time: a malformed line, or the world outside.
+#[derive(Drop)]
+pub enum Trouble {
+    Malformed(Fault),
+    Outside(io::Error),
+}
+
+impl From<Fault> for Trouble as TroubleFromFault {
+    fn from(fault: Fault) -> Trouble {
+        Trouble::Malformed(fault)
+    }
+}
+
+impl From<AllocError> for Trouble as TroubleFromAlloc {
+    fn from(_error: AllocError) -> Trouble {
+        Trouble::Malformed(Fault::NoMemory)
+    }
+}
+
+impl From<io::Error> for Trouble as TroubleFromIo {
+    fn from(error: io::Error) -> Trouble {
+        Trouble::Outside(error)
+    }
+}
+
+pub fn run(rt: &LibcRuntime, lines: &mut Lines) -> Result<(), Trouble> {
+    let mut session = Session::new();
+    let mut layout = Layout::new();
+    let first = describe(rt, lines, &mut session, &mut layout)?;
+    let (low, high) = layout.halves();
+    let mut bank = Pair::new(low, high);
+    if let Some(command) = first {
+        answer(rt, &mut bank, &mut session, command)?;
+        ask(rt, &mut bank, lines, &mut session)?;
+    }
+    let tally = session.tally;
+    println!(rt, "{tally}")?;
+    Ok(())
+}
+
+// Takes in the drives. The first command that asks the bank is handed on.
+fn describe(
+    rt: &LibcRuntime,
+    lines: &mut Lines,
+    session: &mut Session,
+    layout: &mut Layout,
+) -> Result<Option<BankCommand>, Trouble> {
+    while let Some(command) = next_command(rt, lines, session)? {
+        match command {
+            Command::Bank(command) => return Ok(Some(command)),
+            Command::Drive(drive) => {
+                let drive = layout.add(rt.alloc(), drive)?;
+                note(rt, session, Outcome::Attached { drive })?;
+            }
+        }
+    }
+    Ok(None)
+}
+
+fn ask<B: Bank>(
+    rt: &LibcRuntime,
+    bank: &mut B,
+    lines: &mut Lines,
+    session: &mut Session,
+) -> Result<(), Trouble> {
+    while let Some(command) = next_command(rt, lines, session)? {
+        match command {
+            Command::Bank(command) => answer(rt, bank, session, command)?,
+            Command::Drive(_) => return Err(Trouble::Malformed(Fault::LateDrive)),
+        }
+    }
+    Ok(())
+}
+
+// The next command. Expectations on the way to it are held against the outcome before them.
+fn next_command(
+    rt: &LibcRuntime,
+    lines: &mut Lines,
+    session: &mut Session,
+) -> Result<Option<Command>, Trouble>
+    ensures { λ r. ⌜ made r (λ command. Cases command (Unit {0}) (λ _. left (now (lines .exit)) < left (now (lines .entry)))) ⌝ }
+{
+    while let Some(bytes) = lines.next() {
+        match Line::parse(bytes)? {
+            Line::Skipped => {}
+            Line::Expectation(text) => compare(rt, session, text)?,
+            Line::Command(text) => return Ok(Some(Command::parse(rt.alloc(), text)?)),
+        }
+    }
+    Ok(None)
+}
+
+fn compare(rt: &LibcRuntime, session: &mut Session, text: &str) -> Result<(), Trouble> {
+    if !session.expect(text)? {
+        println!(rt, "differs: {text}")?;
+    }
+    Ok(())
+}
+
+fn answer<B: Bank>(
+    rt: &LibcRuntime,
+    bank: &mut B,
+    session: &mut Session,
+    command: BankCommand,
+) -> Result<(), Trouble> {
+    let outcome = perform(rt.alloc(), bank, command)?;
+    note(rt, session, outcome)
+}
+
+fn note(rt: &LibcRuntime, session: &mut Session, outcome: Outcome) -> Result<(), Trouble> {
+    session.note(rt.alloc(), &outcome)?;
+    println!(rt, "{outcome}")?;
+    Ok(())
+}
