@@ -1,6 +1,7 @@
 // What a script's run remembers: its tally, and the latest outcome line, which expectations speak of.
 ghost use mathlib.Core.Path.{_≡_};
 ghost use Rattle.std.specs.declared.option.Option.the-variants.{Some, None};
+ghost use Rattle.std.specs.Results.{Cases};
 ghost use Rattle.std.specs.Vec.{made};
 ghost use Rattle.session.specs.Outcomes.{accepted, outcome-text};
 ghost use Rattle.session.specs.Sessions.{latest-text, answered, judged};
@@ -29,9 +30,9 @@ impl Session {
         }
     }
 
-    // Counts a command and keeps its outcome line.
+    // Counts a command and keeps its outcome line; without memory for the line, nothing changes.
     pub fn note(&mut self, heap: Global, outcome: &Outcome) -> Result<(), AllocError>
-        ensures tally { λ r. ⌜ made r (λ _. now (self .exit) .tally ≡ counted (accepted (now (outcome .entry))) (now (self .entry) .tally)) ⌝ }
+        ensures tally { λ r. ⌜ Cases r (λ _. now (self .exit) .tally ≡ counted (accepted (now (outcome .entry))) (now (self .entry) .tally)) (λ _. now (self .exit) ≡ now (self .entry)) ⌝ }
         ensures latest { λ r. ⌜ made r (λ _. latest-text (now (self .exit)) ≡ Some (outcome-text (now (outcome .entry)))) ⌝ }
     {
         let line = outcome.to_string(heap)?;
