@@ -1,15 +1,10 @@
 // The drives of one script: up to eight, each with bytes and lists of its own.
 use super::slot::Slot;
-use super::slot::SlotBank;
-use super::slot::SlotPlain;
 use drives::Memory;
 use drives::Rom;
-use pair::Pair;
-use pair::PairBank;
-use pair::PairPlain;
+use lines::Fault;
+use lines::FaultFromAlloc;
 use script::Drive;
-use script::Fault;
-use script::FaultFromAlloc;
 use std::alloc::Global;
 
 const SECTOR: u64 = 512;
@@ -71,7 +66,18 @@ impl Store {
     }
 }
 
-pub type Four<'a> = Pair<Pair<Slot<'a>, Slot<'a>>, Pair<Slot<'a>, Slot<'a>>>;
+// Eight of a kind, in their order.
+#[derive(Drop)]
+pub struct Eight<T> {
+    pub a: T,
+    pub b: T,
+    pub c: T,
+    pub d: T,
+    pub e: T,
+    pub f: T,
+    pub g: T,
+    pub h: T,
+}
 
 #[derive(Drop)]
 pub struct Layout {
@@ -87,23 +93,26 @@ pub struct Layout {
 }
 
 impl Layout {
-    // The places as slots of a bank, four and four.
-    pub fn halves(&mut self) -> (Four<'_>, Four<'_>) {
-        let low = Pair::new(
-            Pair::new(self.a.slot(), self.b.slot()),
-            Pair::new(self.c.slot(), self.d.slot()),
-        );
-        let high = Pair::new(
-            Pair::new(self.e.slot(), self.f.slot()),
-            Pair::new(self.g.slot(), self.h.slot()),
-        );
-        (low, high)
+    pub fn slots(&mut self) -> Eight<Slot<'_>> {
+        Eight {
+            a: self.a.slot(),
+            b: self.b.slot(),
+            c: self.c.slot(),
+            d: self.d.slot(),
+            e: self.e.slot(),
+            f: self.f.slot(),
+            g: self.g.slot(),
+            h: self.h.slot(),
+        }
     }
 
     // The number of the drive that is added.
     pub fn add(&mut self, heap: Global, drive: Drive) -> Result<u8, Fault> {
-        let place = Place::new(heap, drive)?;
         let number = self.count;
+        if number >= 8 {
+            return Err(Fault::NinthDrive);
+        }
+        let place = Place::new(heap, drive)?;
         match number {
             0 => self.a = place,
             1 => self.b = place,
@@ -112,8 +121,7 @@ impl Layout {
             4 => self.e = place,
             5 => self.f = place,
             6 => self.g = place,
-            7 => self.h = place,
-            _ => return Err(Fault::NinthDrive),
+            _ => self.h = place,
         }
         self.count = number + 1;
         Ok(number)

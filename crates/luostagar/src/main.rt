@@ -3,11 +3,11 @@ mod layout;
 mod run;
 mod slot;
 
+use lines::Fault;
+use lines::FaultDisplay;
+use lines::Lines;
 use run::Trouble;
 use run::run;
-use script::Fault;
-use script::FaultDisplay;
-use script::Lines;
 use std::env;
 use std::fmt;
 use std::fs;
@@ -103,9 +103,9 @@ fn play(rt: &LibcRuntime, text: &[u8]) -> io::Result<Option<Malformed>> {
     let mut lines = Lines::new(text);
     match run(rt, &mut lines) {
         Ok(()) => Ok(None),
-        Err(Trouble::Outside(error)) => Err(error),
+        Err(Trouble::Outside(kind)) => Err(kind.into()),
         Err(Trouble::Malformed(fault)) => Ok(Some(Malformed {
-            line: lines.number(),
+            line: lines.number,
             fault,
         })),
     }

@@ -2,20 +2,21 @@
 ghost use Prim.Native.Nat.{_<_};
 ghost use Rattle.std.specs.Options.{Cases};
 ghost use Rattle.std.specs.Vec.{made};
-ghost use Rattle.script.specs.Rest.{left};
-use super::layout::Four;
+ghost use Rattle.lines.specs.Rest.{left};
+use super::layout::Eight;
 use super::layout::Layout;
 use super::slot::SlotBank;
 use super::slot::SlotPlain;
 use bank::Bank;
+use bank::Plain;
+use lines::Fault;
+use lines::Line;
+use lines::Lines;
 use pair::Pair;
 use pair::PairBank;
 use pair::PairPlain;
 use script::BankCommand;
 use script::Command;
-use script::Fault;
-use script::Line;
-use script::Lines;
 use session::Outcome;
 use session::OutcomeDisplay;
 use session::Session;
@@ -28,7 +29,7 @@ use std::io;
 #[derive(Drop)]
 pub enum Trouble {
     Malformed(Fault),
-    Outside(io::Error),
+    Outside(io::ErrorKind),
 }
 
 impl From<Fault> for Trouble as TroubleFromFault {
@@ -45,23 +46,75 @@ impl From<AllocError> for Trouble as TroubleFromAlloc {
 
 impl From<io::Error> for Trouble as TroubleFromIo {
     fn from(error: io::Error) -> Trouble {
-        Trouble::Outside(error)
+        Trouble::Outside(error.kind())
     }
 }
 
 pub fn run(rt: &LibcRuntime, lines: &mut Lines) -> Result<(), Trouble> {
     let mut session = Session::new();
     let mut layout = Layout::new();
-    let first = describe(rt, lines, &mut session, &mut layout)?;
-    let (low, high) = layout.halves();
-    let mut bank = Pair::new(low, high);
-    if let Some(command) = first {
-        answer(rt, &mut bank, &mut session, command)?;
-        ask(rt, &mut bank, lines, &mut session)?;
+    if let Some(first) = describe(rt, lines, &mut session, &mut layout)? {
+        on_eight(rt, lines, &mut session, first, layout.slots())?;
     }
     let tally = session.tally;
     println!(rt, "{tally}")?;
     Ok(())
+}
+
+// Eight banks become one, two by two.
+fn on_eight<T: Plain + Drop>(
+    rt: &LibcRuntime,
+    lines: &mut Lines,
+    session: &mut Session,
+    first: BankCommand,
+    banks: Eight<T>,
+) -> Result<(), Trouble> {
+    let Eight {
+        a,
+        b,
+        c,
+        d,
+        e,
+        f,
+        g,
+        h,
+    } = banks;
+    on_four(
+        rt,
+        lines,
+        session,
+        first,
+        Pair::new(a, b),
+        Pair::new(c, d),
+        Pair::new(e, f),
+        Pair::new(g, h),
+    )
+}
+
+fn on_four<T: Plain + Drop>(
+    rt: &LibcRuntime,
+    lines: &mut Lines,
+    session: &mut Session,
+    first: BankCommand,
+    a: T,
+    b: T,
+    c: T,
+    d: T,
+) -> Result<(), Trouble> {
+    on_two(rt, lines, session, first, Pair::new(a, b), Pair::new(c, d))
+}
+
+fn on_two<T: Plain + Drop>(
+    rt: &LibcRuntime,
+    lines: &mut Lines,
+    session: &mut Session,
+    first: BankCommand,
+    a: T,
+    b: T,
+) -> Result<(), Trouble> {
+    let mut bank = Pair::new(a, b);
+    answer(rt, &mut bank, session, first)?;
+    ask(rt, &mut bank, lines, session)
 }
 
 // Takes in the drives. The first command that asks the bank is handed on.

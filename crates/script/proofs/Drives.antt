@@ -18,12 +18,12 @@ use Rattle.std.specs.shelf.Text.{sameBytes}
 use Rattle.std.proofs.shelf.Equals.{sameBytes-decides}
 use Rattle.std.proofs.shelf.Lists.{at-drop-more, take-map, drop-map}
 use Rattle.std.proofs.shelf.Tests.{cond-true, cond-false, cases-bool}
-use Rattle.script.specs.declared.fault.Fault.{Fault}
-use Rattle.script.specs.declared.fault.Fault.the-variants.{MissingWord, ExtraWord, NotNumber, NoMemory}
-use Rattle.script.specs.declared.fault.Part.{Part}
+use Rattle.lines.specs.declared.fault.Fault.{Fault}
+use Rattle.lines.specs.declared.fault.Fault.the-variants.{MissingWord, ExtraWord, NotNumber, NoMemory}
+use Rattle.lines.specs.declared.fault.Part.{Part}
 use Rattle.script.specs.Drives.{numbers, some-numbers, onto, marked-in, seam-in}
-use Rattle.script.specs.Number.{number-in}
-use Rattle.script.specs.Texts.{texts}
+use Rattle.lines.specs.Number.{number-in}
+use Rattle.lines.specs.Texts.{texts}
 use Rattle.script.specs.Words.{then}
 
 same : (v w : List ℕ) → v ≡ w → sameBytes v w ≡ true

@@ -1,6 +1,4 @@
-pub mod Commands
-pub mod Drives
-pub mod Newlines
-pub mod Numbers
-pub mod Places
-pub mod Sorting
+mod Commands
+mod Cuts
+mod Drives
+mod Places

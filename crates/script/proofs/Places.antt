@@ -15,10 +15,10 @@ use Rattle.std.specs.Places.{Item}
 use Rattle.std.proofs.shelf.Lists.{length-map, getD-map}
 use Rattle.std.proofs.shelf.Maps.{nth-getD, nth-past}
 use Rattle.std.proofs.shelf.Tests.{cases-lt}
-use Rattle.script.specs.declared.fault.Fault.the-variants.{NotNumber}
-use Rattle.script.specs.declared.fault.Part.{Part}
-use Rattle.script.specs.Number.{number-in}
-use Rattle.script.specs.Texts.{texts}
+use Rattle.lines.specs.declared.fault.Fault.the-variants.{NotNumber}
+use Rattle.lines.specs.declared.fault.Part.{Part}
+use Rattle.lines.specs.Number.{number-in}
+use Rattle.lines.specs.Texts.{texts}
 use Rattle.script.specs.Words.{reading, number-at}
 
 pub picked : (refs : List (RefT (List ℕ))) (i : ℕ) (r : Option (RefT (RefT (List ℕ)))) → Item refs i i r → mapped (λ x. x .now .now) r ≡ nth (texts refs) i

@@ -11,10 +11,10 @@ use Rattle.std.specs.Finite.{nth}
 use Rattle.std.specs.shelf.Text.{sameBytes}
 use Rattle.script.specs.declared.command.BankCommand.{BankCommand}
 use Rattle.script.specs.declared.command.BankCommand.the-variants.{Count, Length, Ends, Get, Put}
-use Rattle.script.specs.declared.fault.Fault.{Fault}
-use Rattle.script.specs.declared.fault.Fault.the-variants.{MissingWord, UnknownCommand, NotBank}
-use Rattle.script.specs.declared.fault.Part.{Part}
-use Rattle.script.specs.declared.fault.Part.the-variants.{Command, Bank, Sector, Seed}
+use Rattle.lines.specs.declared.fault.Fault.{Fault}
+use Rattle.lines.specs.declared.fault.Fault.the-variants.{MissingWord, UnknownCommand, NotBank}
+use Rattle.lines.specs.declared.fault.Part.{Part}
+use Rattle.lines.specs.declared.fault.Part.the-variants.{Command, Bank, Sector, Seed}
 use Rattle.script.specs.Words.{then, number-at, drive-at, end-at, size-at}
 
 -- the bank's own word, 8

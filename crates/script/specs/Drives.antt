@@ -13,11 +13,11 @@ use Rattle.std.specs.Options.{okOr}
 use Rattle.std.specs.shelf.Text.{sameBytes}
 use Rattle.script.specs.declared.drive.Drive.{Drive}
 use Rattle.script.specs.declared.drive.Drive.the-variants.{Memory, Rom}
-use Rattle.script.specs.declared.fault.Fault.{Fault}
-use Rattle.script.specs.declared.fault.Fault.the-variants.{MissingWord, ExtraWord, NotNumber, NoMemory}
-use Rattle.script.specs.declared.fault.Part.{Part}
-use Rattle.script.specs.declared.fault.Part.the-variants.{Sectors, Unreadable, Unwritable}
-use Rattle.script.specs.Number.{number-in}
+use Rattle.lines.specs.declared.fault.Fault.{Fault}
+use Rattle.lines.specs.declared.fault.Fault.the-variants.{MissingWord, ExtraWord, NotNumber, NoMemory}
+use Rattle.lines.specs.declared.fault.Part.{Part}
+use Rattle.lines.specs.declared.fault.Part.the-variants.{Sectors, Unreadable, Unwritable}
+use Rattle.lines.specs.Number.{number-in}
 use Rattle.script.specs.Words.{then, number-at, end-at, bounded}
 
 pub data Plan : Type 0 where

@@ -1,8 +1,5 @@
 pub mod Commands
+pub mod Cuts
 pub mod Drives
-pub mod Kinds
-pub mod Number
 pub mod Parsed
-pub mod Rest
-pub mod Texts
 pub mod Words

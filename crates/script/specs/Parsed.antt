@@ -14,12 +14,12 @@ use Rattle.std.specs.shelf.Text.{sameBytes}
 use Rattle.script.specs.declared.command.BankCommand.{BankCommand}
 use Rattle.script.specs.declared.command.Command.{Command}
 use Rattle.script.specs.declared.command.Command.the-variants.{Drive, Bank}
-use Rattle.script.specs.declared.fault.Fault.{Fault}
-use Rattle.script.specs.declared.fault.Fault.the-variants.{MissingWord, NoMemory}
-use Rattle.script.specs.declared.fault.Part.the-variants as Part
+use Rattle.lines.specs.declared.fault.Fault.{Fault}
+use Rattle.lines.specs.declared.fault.Fault.the-variants.{MissingWord, NoMemory}
+use Rattle.lines.specs.declared.fault.Part.the-variants as Part
 use Rattle.script.specs.Commands.{bank-said}
 use Rattle.script.specs.Drives.{Plan, told-drive, Read, memory-said, rom-said}
-use Rattle.script.specs.Kinds.{Cut, solid}
+use Rattle.script.specs.Cuts.{Cut, solid}
 use Rattle.script.specs.Words.{then}
 
 pub data Told : Type 0 where

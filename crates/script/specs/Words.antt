@@ -11,12 +11,12 @@ use Rattle.std.specs.declared.result.Result.the-variants.{Ok, Err}
 use Rattle.std.specs.Finite.{nth}
 use Rattle.std.specs.Options.{okOr}
 use Rattle.std.specs.shelf.Text.{sameBytes}
-use Rattle.script.specs.declared.fault.Fault.{Fault}
-use Rattle.script.specs.declared.fault.Fault.the-variants.{MissingWord, ExtraWord, NotNumber, NotDrive, TooLarge}
-use Rattle.script.specs.declared.fault.Part.{Part}
-use Rattle.script.specs.declared.fault.Part.the-variants.{Drive, Bytes}
-use Rattle.script.specs.Number.{number-in}
-use Rattle.script.specs.Texts.{behind}
+use Rattle.lines.specs.declared.fault.Fault.{Fault}
+use Rattle.lines.specs.declared.fault.Fault.the-variants.{MissingWord, ExtraWord, NotNumber, NotDrive, TooLarge}
+use Rattle.lines.specs.declared.fault.Part.{Part}
+use Rattle.lines.specs.declared.fault.Part.the-variants.{Drive, Bytes}
+use Rattle.lines.specs.Number.{number-in}
+use Rattle.lines.specs.Texts.{behind}
 
 -- One step after another: the first fault ends the line.
 abbrev pub then : {X Y : Type 0} → Result X Fault → (X → Result Y Fault) → Result Y Fault

@@ -1,19 +1,19 @@
 // The commands of a script, parsed from the words of a line.
 ghost use mathlib.Core.Path.{_≡_};
-ghost use Rattle.script.specs.Texts.{texts};
+ghost use Rattle.lines.specs.Texts.{texts};
 ghost use Rattle.script.specs.Commands.{bank-at, count-said, length-said, ends-said, get-said, put-said, bank-said};
 ghost use Rattle.script.specs.Drives.{Read};
 ghost use Rattle.script.specs.Parsed.{told-command, command-said, Parsed};
+use super::cut::all_solid;
+use super::cut::split;
 use super::drive::Drive;
-use super::fault::Fault;
-use super::fault::Part;
-use super::line::all_solid;
-use super::line::split;
 use super::words::drive_at;
 use super::words::end_at;
 use super::words::number_at;
 use super::words::size_at;
 use super::words::word_at;
+use lines::Fault;
+use lines::Part;
 use std::alloc::Global;
 
 #[derive(Clone, Copy, PartialEq, Eq, Debug)]
@@ -69,7 +69,7 @@ impl Command {
 }
 
 impl BankCommand {
-    pub fn parse(words: &[&str]) -> Result<BankCommand, Fault>
+    fn parse(words: &[&str]) -> Result<BankCommand, Fault>
         ensures { λ r. ⌜ r ≡ bank-said (texts (now (words .entry))) ⌝ }
     {
         match word_at(words, 0) {

@@ -4,16 +4,16 @@ ghost use Prim.Native.Nat.{_≤_};
 ghost use lib.ListN.{length, drop};
 ghost use Rattle.std.specs.Of.Vec.{vec-items};
 ghost use Rattle.script.specs.Drives.{Read, told-drive, numbers, marked-in, seam-in, lists-in, memory-said, rom-said};
-ghost use Rattle.script.specs.Texts.{texts};
-use super::decimal::number;
-use super::fault::Fault;
-use super::fault::FaultFromAlloc;
-use super::fault::FaultFromRefused;
-use super::fault::Part;
+ghost use Rattle.lines.specs.Texts.{texts};
 use super::words::at_most;
 use super::words::end_at;
 use super::words::number_at;
 use super::words::word_at;
+use lines::Fault;
+use lines::FaultFromAlloc;
+use lines::FaultFromRefused;
+use lines::Part;
+use lines::number;
 use std::alloc::Global;
 
 // A memory drive's bytes are held in memory: 1 GiB at most.
@@ -33,7 +33,7 @@ pub enum Drive {
 
 impl Drive {
     // memory SECTORS [unreadable N ..] [unwritable N ..]
-    pub fn memory(heap: Global, words: &[&str]) -> Result<Drive, Fault>
+    pub(super) fn memory(heap: Global, words: &[&str]) -> Result<Drive, Fault>
         ensures { λ r. ⌜ Read told-drive (memory-said (texts (now (words .entry)))) r ⌝ }
     {
         let sectors = number_at(words, 1, Part::Sectors)?;
@@ -55,7 +55,7 @@ impl Drive {
     }
 
     // rom SECTORS
-    pub fn rom(words: &[&str]) -> Result<Drive, Fault>
+    pub(super) fn rom(words: &[&str]) -> Result<Drive, Fault>
         ensures { λ r. ⌜ Read told-drive (rom-said (texts (now (words .entry)))) r ⌝ }
     {
         let sectors = number_at(words, 1, Part::Sectors)?;

@@ -4,11 +4,11 @@ ghost use Prim.Native.Nat.{_≤_, _<_};
 ghost use lib.ListN.{length};
 ghost use Rattle.std.specs.Finite.{nth};
 ghost use Rattle.std.specs.Options.{mapped, Cases};
-ghost use Rattle.script.specs.Texts.{texts};
+ghost use Rattle.lines.specs.Texts.{texts};
 ghost use Rattle.script.specs.Words.{number-at, drive-in, drive-at, end-at, bounded, size-at};
-use super::decimal::number;
-use super::fault::Fault;
-use super::fault::Part;
+use lines::Fault;
+use lines::Part;
+use lines::number;
 
 // A buffer has as many bytes as a sector unless a script says otherwise.
 const SECTOR: u64 = 512;

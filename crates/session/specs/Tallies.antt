@@ -5,7 +5,7 @@ use Prim.Native.Nat.{ℕ, min, _+_, _-_, _^_}
 use lib.Chars.{codes}
 use lib.Dec.{ltb}
 use Rattle.std.specs.Written.{decimal}
-use Rattle.script.specs.Rest.{more}
+use Rattle.lines.specs.Rest.{more}
 use Rattle.session.specs.declared.tally.Tally.{Tally}
 
 abbrev pub none-yet : Tally

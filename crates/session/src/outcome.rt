@@ -34,7 +34,7 @@ pub enum Outcome {
 
 impl Outcome {
     // Whether the command was obeyed. To ask for a sector's ends is, whatever they are.
-    pub fn accepted(&self) -> bool
+    pub(super) fn accepted(&self) -> bool
         ensures { λ r. ⌜ r ≡ accepted (now (self .entry)) ⌝ }
     {
         match self {

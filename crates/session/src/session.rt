@@ -9,7 +9,7 @@ ghost use Rattle.session.specs.Tallies.{counted, none-yet};
 use super::outcome::Outcome;
 use super::outcome::OutcomeDisplay;
 use super::tally::Tally;
-use script::Fault;
+use lines::Fault;
 use std::alloc::AllocError;
 use std::alloc::Global;
 

@@ -26,7 +26,7 @@ impl Tally {
     }
 
     // Whether there were expectations.
-    pub fn expects(&self) -> bool
+    fn expects(&self) -> bool
         ensures { λ r. ⌜ r ≡ expects (now (self .entry)) ⌝ }
     {
         self.met > 0 || self.unmet > 0

@@ -1,4 +1,4 @@
-use Rattle.script.specs.Rest.{left}
+use Rattle.lines.specs.Rest.{left}
 use Rattle.luostagar.proofs.run.describe.Given as given
 
 abbrev pub μ-loop-command : given.MeasureT-loop-command

@@ -1,5 +1,5 @@
 use Prim.Native.Nat.{_≤_}
-use Rattle.script.specs.Rest.{left}
+use Rattle.lines.specs.Rest.{left}
 use Rattle.luostagar.proofs.run.next_command.Given as given
 
 abbrev pub Inv-loop-bytes : given.InvT-loop-bytes

@@ -3,7 +3,7 @@ use mathlib.Core.Logic.{inr}
 use Rattle.std.specs.Of.Vec.{vec-items}
 use Rattle.std.proofs.shelf.Lists.{at-drop-all}
 use Rattle.script.specs.Drives.{numbers, onto}
-use Rattle.script.specs.Texts.{texts}
+use Rattle.lines.specs.Texts.{texts}
 use Rattle.script.proofs.Drives.{no-number, one-number, onto-none}
 use Rattle.script.proofs.drive.all_numbers.Needs as need
 

@@ -3,7 +3,7 @@ use mathlib.Core.List.{_++_}
 use lib.ListN.{drop}
 use Rattle.std.specs.Of.Vec.{vec-items}
 use Rattle.script.specs.Drives.{numbers, onto}
-use Rattle.script.specs.Texts.{texts}
+use Rattle.lines.specs.Texts.{texts}
 use Rattle.script.proofs.drive.all_numbers.Given as given
 
 -- the numbers so far, and those of the words that are left

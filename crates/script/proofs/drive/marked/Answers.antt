@@ -4,7 +4,7 @@ use Rattle.std.specs.Of.Vec.{vec-items}
 use Rattle.std.proofs.shelf.Lists.{take-rest}
 use Rattle.std.proofs.shelf.Tests.{not-true, not-false, both-ways}
 use Rattle.script.specs.Drives.{Read, numbers}
-use Rattle.script.specs.Texts.{texts}
+use Rattle.lines.specs.Texts.{texts}
 use Rattle.script.proofs.Drives.{other-name, name-alone, name-first}
 use Rattle.script.proofs.drive.marked.Needs as need
 

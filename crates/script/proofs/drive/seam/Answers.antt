@@ -4,7 +4,7 @@ use borrow.Author.Needs.{needs}
 use Rattle.std.proofs.shelf.Lists.{drop-all, at-drop-all}
 use Rattle.std.proofs.shelf.Tests.{false≢true}
 use Rattle.script.specs.Drives.{seam-in}
-use Rattle.script.specs.Texts.{texts}
+use Rattle.lines.specs.Texts.{texts}
 use Rattle.script.proofs.Drives.{seam-here, seam-next}
 use Rattle.script.proofs.drive.seam.Needs as need
 

@@ -2,7 +2,7 @@ use mathlib.Core.Path.{_≡_}
 use Prim.Native.Nat.{_+_}
 use lib.ListN.{drop}
 use Rattle.script.specs.Drives.{seam-in}
-use Rattle.script.specs.Texts.{texts}
+use Rattle.lines.specs.Texts.{texts}
 use Rattle.script.proofs.drive.seam.Given as given
 
 abbrev pub Inv-loop-at : given.InvT-loop-at

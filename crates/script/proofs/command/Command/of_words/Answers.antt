@@ -1,7 +1,7 @@
 use mathlib.Core.Path.{sym}
 use mathlib.Core.Logic.{inr}
 use Rattle.std.proofs.shelf.Results.{err-from-errBy}
-use Rattle.script.specs.Texts.{texts}
+use Rattle.lines.specs.Texts.{texts}
 use Rattle.script.proofs.Commands.{no-drive}
 use Rattle.script.proofs.Drives.{read-on}
 use Rattle.script.proofs.command.Command.of_words.Needs as need

@@ -4,7 +4,7 @@ use native.Mathlib.Omega.{arith}
 use borrow.Author.Needs.{needs}
 use lib.ListN.{length}
 use Rattle.std.proofs.shelf.Lists.{take-rest}
-use Rattle.script.specs.Texts.{texts}
+use Rattle.lines.specs.Texts.{texts}
 use Rattle.script.proofs.Drives.{back-texts}
 use Rattle.script.proofs.Places.{placed}
 use Rattle.script.proofs.drive.Drive.memory.Needs as need

@@ -2,7 +2,7 @@ use mathlib.Core.Path.{_≡_, sym, ap, _∙_}
 use lib.ListN.{take, drop}
 use Rattle.std.proofs.shelf.Results.{err-from-errBy}
 use Rattle.script.specs.Drives.{seam-in}
-use Rattle.script.specs.Texts.{texts}
+use Rattle.lines.specs.Texts.{texts}
 use Rattle.script.proofs.Drives.{front-texts, back-texts, read-on}
 use Rattle.script.proofs.drive.Drive.with_lists.Needs as need
 

@@ -1,0 +1,3 @@
+mod Newlines
+mod Numbers
+mod Sorting
