@@ -1,7 +1,5 @@
 // The program: runs scripts from standard input or from files, each on a bank of its own.
-mod layout;
 mod run;
-mod slot;
 
 use lines::Fault;
 use lines::FaultDisplay;
@@ -103,7 +101,7 @@ fn play(rt: &LibcRuntime, text: &[u8]) -> io::Result<Option<Malformed>> {
     let mut lines = Lines::new(text);
     match run(rt, &mut lines) {
         Ok(()) => Ok(None),
-        Err(Trouble::Outside(kind)) => Err(kind.into()),
+        Err(Trouble::Outside(error)) => Err(error),
         Err(Trouble::Malformed(fault)) => Ok(Some(Malformed {
             line: lines.number,
             fault,

@@ -3,12 +3,12 @@ ghost use Prim.Native.Nat.{_<_};
 ghost use Rattle.std.specs.Options.{Cases};
 ghost use Rattle.std.specs.Vec.{made};
 ghost use Rattle.lines.specs.Rest.{left};
-use super::layout::Eight;
-use super::layout::Layout;
-use super::slot::SlotBank;
-use super::slot::SlotPlain;
 use bank::Bank;
 use bank::Plain;
+use layout::Eight;
+use layout::Layout;
+use layout::SlotBank;
+use layout::SlotPlain;
 use lines::Fault;
 use lines::Line;
 use lines::Lines;
@@ -29,7 +29,7 @@ use std::io;
 #[derive(Drop)]
 pub enum Trouble {
     Malformed(Fault),
-    Outside(io::ErrorKind),
+    Outside(io::Error),
 }
 
 impl From<Fault> for Trouble as TroubleFromFault {
@@ -46,19 +46,29 @@ impl From<AllocError> for Trouble as TroubleFromAlloc {
 
 impl From<io::Error> for Trouble as TroubleFromIo {
     fn from(error: io::Error) -> Trouble {
-        Trouble::Outside(error.kind())
+        Trouble::Outside(error)
     }
 }
 
 pub fn run(rt: &LibcRuntime, lines: &mut Lines) -> Result<(), Trouble> {
     let mut session = Session::new();
     let mut layout = Layout::new();
-    if let Some(first) = describe(rt, lines, &mut session, &mut layout)? {
-        on_eight(rt, lines, &mut session, first, layout.slots())?;
-    }
+    play(rt, lines, &mut session, &mut layout)?;
     let tally = session.tally;
     println!(rt, "{tally}")?;
     Ok(())
+}
+
+fn play(
+    rt: &LibcRuntime,
+    lines: &mut Lines,
+    session: &mut Session,
+    layout: &mut Layout,
+) -> Result<(), Trouble> {
+    match describe(rt, lines, session, layout)? {
+        Some(first) => on_eight(rt, lines, session, first, layout.slots()),
+        None => Ok(()),
+    }
 }
 
 // Eight banks become one, two by two.

@@ -3,7 +3,7 @@ ghost use mathlib.Core.Bool.{cond};
 ghost use mathlib.Core.Path.{_≡_};
 ghost use lib.Dec.{eqb};
 ghost use Rattle.bank.specs.Told.{number-of};
-ghost use Rattle.luostagar.specs.Slots.{slot-means, SlotStands, slot-lawful};
+ghost use Rattle.layout.specs.Slots.{slot-means, SlotStands, slot-lawful};
 use bank::Bank;
 use bank::Cause;
 use bank::Plain;

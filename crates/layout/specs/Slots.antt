@@ -3,8 +3,8 @@ use Rattle.bank.specs.Meaning.{Meaning, Lawful}
 use Rattle.bank.specs.Shapes.{no-drives}
 use Rattle.bank.proofs.Shapes.{no-drives-lawful}
 use Rattle.drives.specs.Means.{memory-means, MemoryStands, memory-lawful, rom-means, RomStands, rom-lawful}
-use Rattle.luostagar.specs.declared.slot.Slot.{Slot}
-use Rattle.luostagar.specs.declared.slot.Slot.the-variants.{Memory, Rom, Nothing}
+use Rattle.layout.specs.declared.slot.Slot.{Slot}
+use Rattle.layout.specs.declared.slot.Slot.the-variants.{Memory, Rom, Nothing}
 
 abbrev pub slot-means : Slot → Meaning
 slot-means (Memory m) = memory-means m

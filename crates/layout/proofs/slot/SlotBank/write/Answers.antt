@@ -1,7 +1,7 @@
 use mathlib.Core.Path.{ap}
 use Rattle.bank.proofs.Stores.{absent-write}
-use Rattle.luostagar.specs.Slots.{slot-means}
-use Rattle.luostagar.proofs.slot.SlotBank.write.Needs as need
+use Rattle.layout.specs.Slots.{slot-means}
+use Rattle.layout.proofs.slot.SlotBank.write.Needs as need
 
 pub returns-in-Nothing : need.returns-in-Nothing
 returns-in-Nothing c =

@@ -2,10 +2,10 @@
 use Rattle.bank.specs.Meaning.{Plainly}
 use Rattle.bank.proofs.Shapes.{no-drives-plain}
 use Rattle.drives.proofs.Plain.{memory-plain, rom-plain}
-use Rattle.luostagar.specs.Slots.{slot-means}
-use Rattle.luostagar.specs.declared.slot.Slot.{Slot}
-use Rattle.luostagar.specs.declared.slot.Slot.the-variants.{Memory, Rom, Nothing}
-use Rattle.luostagar.proofs.slot.SlotPlain.the-impl.Statement.{statement}
+use Rattle.layout.specs.Slots.{slot-means}
+use Rattle.layout.specs.declared.slot.Slot.{Slot}
+use Rattle.layout.specs.declared.slot.Slot.the-variants.{Memory, Rom, Nothing}
+use Rattle.layout.proofs.slot.SlotPlain.the-impl.Statement.{statement}
 
 slot-plain : (s : Slot) → Plainly (slot-means s)
 slot-plain (Memory m) = memory-plain m
