@@ -1,4 +1,5 @@
 // Runs one script: its drives first, and then the commands that ask the bank which they make.
+ghost use mathlib.Core.Path.{_≡_};
 ghost use Prim.Native.Nat.{_<_};
 ghost use Rattle.std.specs.Options.{Cases};
 ghost use Rattle.std.specs.Vec.{made};
@@ -50,10 +51,19 @@ impl From<io::Error> for Trouble as TroubleFromIo {
     }
 }
 
-pub fn run(rt: &LibcRuntime, lines: &mut Lines) -> Result<(), Trouble> {
+// Runs every line, unless trouble comes between.
+pub fn run(rt: &LibcRuntime, lines: &mut Lines) -> Result<(), Trouble>
+    ensures { λ r. ⌜ made r (λ _. left (now (lines .exit)) ≡ 0) ⌝ }
+{
     let mut session = Session::new();
     let mut layout = Layout::new();
-    play(rt, lines, &mut session, &mut layout)?;
+    match play(rt, lines, &mut session, &mut layout) {
+        Ok(()) => sum_up(rt, &session),
+        Err(trouble) => Err(trouble),
+    }
+}
+
+fn sum_up(rt: &LibcRuntime, session: &Session) -> Result<(), Trouble> {
     let tally = session.tally;
     println!(rt, "{tally}")?;
     Ok(())
@@ -64,7 +74,9 @@ fn play(
     lines: &mut Lines,
     session: &mut Session,
     layout: &mut Layout,
-) -> Result<(), Trouble> {
+) -> Result<(), Trouble>
+    ensures { λ r. ⌜ made r (λ _. left (now (lines .exit)) ≡ 0) ⌝ }
+{
     match describe(rt, lines, session, layout)? {
         Some(first) => on_eight(rt, lines, session, first, layout.slots()),
         None => Ok(()),
@@ -78,7 +90,9 @@ fn on_eight<T: Plain + Drop>(
     session: &mut Session,
     first: BankCommand,
     banks: Eight<T>,
-) -> Result<(), Trouble> {
+) -> Result<(), Trouble>
+    ensures { λ r. ⌜ made r (λ _. left (now (lines .exit)) ≡ 0) ⌝ }
+{
     let Eight {
         a,
         b,
@@ -110,7 +124,9 @@ fn on_four<T: Plain + Drop>(
     b: T,
     c: T,
     d: T,
-) -> Result<(), Trouble> {
+) -> Result<(), Trouble>
+    ensures { λ r. ⌜ made r (λ _. left (now (lines .exit)) ≡ 0) ⌝ }
+{
     on_two(rt, lines, session, first, Pair::new(a, b), Pair::new(c, d))
 }
 
@@ -121,7 +137,9 @@ fn on_two<T: Plain + Drop>(
     first: BankCommand,
     a: T,
     b: T,
-) -> Result<(), Trouble> {
+) -> Result<(), Trouble>
+    ensures { λ r. ⌜ made r (λ _. left (now (lines .exit)) ≡ 0) ⌝ }
+{
     let mut bank = Pair::new(a, b);
     answer(rt, &mut bank, session, first)?;
     ask(rt, &mut bank, lines, session)
@@ -133,7 +151,9 @@ fn describe(
     lines: &mut Lines,
     session: &mut Session,
     layout: &mut Layout,
-) -> Result<Option<BankCommand>, Trouble> {
+) -> Result<Option<BankCommand>, Trouble>
+    ensures { λ r. ⌜ made r (λ first. Cases first (left (now (lines .exit)) ≡ 0) (λ _. Unit {0})) ⌝ }
+{
     while let Some(command) = next_command(rt, lines, session)? {
         match command {
             Command::Bank(command) => return Ok(Some(command)),
@@ -151,7 +171,9 @@ fn ask<B: Bank>(
     bank: &mut B,
     lines: &mut Lines,
     session: &mut Session,
-) -> Result<(), Trouble> {
+) -> Result<(), Trouble>
+    ensures { λ r. ⌜ made r (λ _. left (now (lines .exit)) ≡ 0) ⌝ }
+{
     while let Some(command) = next_command(rt, lines, session)? {
         match command {
             Command::Bank(command) => answer(rt, bank, session, command)?,
@@ -167,7 +189,7 @@ fn next_command(
     lines: &mut Lines,
     session: &mut Session,
 ) -> Result<Option<Command>, Trouble>
-    ensures { λ r. ⌜ made r (λ command. Cases command (Unit {0}) (λ _. left (now (lines .exit)) < left (now (lines .entry)))) ⌝ }
+    ensures { λ r. ⌜ made r (λ command. Cases command (left (now (lines .exit)) ≡ 0) (λ _. left (now (lines .exit)) < left (now (lines .entry)))) ⌝ }
 {
     while let Some(bytes) = lines.next() {
         match Line::parse(bytes)? {
