@@ -1,11 +1,13 @@
 // Words of scripts: numbers and drives at their bounds, known digests, and what is said of malformed commands.
+use bank::Cause;
 use lines::FaultDisplay;
 use lines::number;
 use script::Command;
 use script::drive_number;
 use session::Hex;
 use session::HexDisplay;
-use session::Tally;
+use session::Outcome;
+use session::Session;
 use session::TallyDisplay;
 use session::digest;
 use session::sow;
@@ -87,13 +89,15 @@ fn faults_name_the_word(rt: LibcRuntime) -> Result<(), Fail> {
 
 #[test]
 fn the_summary_names_expectations(rt: LibcRuntime) -> Result<(), Fail> {
-    let mut tally = Tally::new();
-    tally.count(true);
-    tally.count(false);
-    check(tally.to_string(rt.alloc())?.as_str() == "2 commands: 1 ok, 1 refused")?;
-    tally.compare(false);
+    let heap = rt.alloc();
+    let mut session = Session::new();
+    session.note(heap, &Outcome::Counted { drives: 2 })?;
+    session.note(heap, &Outcome::Stored(Err(Cause::NoDrive)))?;
+    check(session.tally.to_string(heap)?.as_str() == "2 commands: 1 ok, 1 refused")?;
+    check(matches!(session.expect("cause 1"), Ok(true)))?;
+    check(matches!(session.expect("ok"), Ok(false)))?;
     check(
-        tally.to_string(rt.alloc())?.as_str()
-            == "2 commands: 1 ok, 1 refused; 0 as expected, 1 not",
+        session.tally.to_string(heap)?.as_str()
+            == "2 commands: 1 ok, 1 refused; 1 as expected, 1 not",
     )
 }

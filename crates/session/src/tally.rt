@@ -14,7 +14,7 @@ pub struct Tally {
 }
 
 impl Tally {
-    pub fn new() -> Tally
+    pub(super) fn new() -> Tally
         ensures { λ r. ⌜ r ≡ none-yet ⌝ }
     {
         Tally {
@@ -33,7 +33,7 @@ impl Tally {
     }
 
     // One command more.
-    pub fn count(&mut self, accepted: bool)
+    pub(super) fn count(&mut self, accepted: bool)
         ensures { λ _. ⌜ now (self .exit) ≡ counted accepted (now (self .entry)) ⌝ }
     {
         if accepted {
@@ -44,7 +44,7 @@ impl Tally {
     }
 
     // One expectation more.
-    pub fn compare(&mut self, met: bool)
+    pub(super) fn compare(&mut self, met: bool)
         ensures { λ _. ⌜ now (self .exit) ≡ compared met (now (self .entry)) ⌝ }
     {
         if met {
