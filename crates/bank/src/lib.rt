@@ -1,5 +1,7 @@
 // A bank of drives: the interface between the engine and what holds the bytes, and what it means.
 // A bank's meaning is in specs/Meaning.antt; the methods here answer from it.
+#![tactic(auto)]
+
 mod cause;
 mod source;
 mod traits;

@@ -1,4 +1,6 @@
 // A script's text: its lines, their kinds, its numbers, and what is said of a malformed line.
+#![tactic(auto)]
+
 mod decimal;
 mod fault;
 mod line;

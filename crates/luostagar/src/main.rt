@@ -1,4 +1,6 @@
 // The program: runs scripts from standard input or from files, each on a bank of its own.
+#![tactic(auto)]
+
 mod run;
 
 use lines::{Fault, Lines};

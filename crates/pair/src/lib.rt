@@ -1,4 +1,6 @@
 // Two plain banks side by side: the left one's drives first, then the right one's, 64 in all at the most.
+#![tactic(auto)]
+
 ghost use Rattle.std.specs.Prelude.{◌≡◌, ◌≤◌, ◌<◌, length};
 ghost use Rattle.bank.specs.Meaning.{Stored, cause_of, cells_of, write_due};
 ghost use Rattle.bank.specs.Shapes.{beside, both_drives};

@@ -1,4 +1,6 @@
 // The language of the program's scripts: the drives and commands that the words of a line say.
+#![tactic(auto)]
+
 mod command;
 mod cut;
 mod drive;

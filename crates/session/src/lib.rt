@@ -1,4 +1,6 @@
 // What a script's commands do on a bank, how their outcomes are told, and what a run remembers of them.
+#![tactic(auto)]
+
 mod deeds;
 mod fnv;
 mod hex;
