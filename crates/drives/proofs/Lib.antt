@@ -1,3 +1,2 @@
 mod Listed
-pub mod Plain
 mod Written

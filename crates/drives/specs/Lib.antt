@@ -1,2 +1,3 @@
 pub mod Disks
 pub mod Means
+pub mod Plain

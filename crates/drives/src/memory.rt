@@ -3,6 +3,7 @@ ghost use Rattle.std.specs.Prelude.{◌≡◌, ◌/◌, ◌^◌, ◌<◌, min, l
 ghost use Rattle.bank.specs.Shapes.{one_drive, cut, with_sector};
 ghost use Rattle.drives.specs.Disks.{memory, Bytes};
 ghost use Rattle.drives.specs.Means.{memory_means, MemoryStands, memory_lawful};
+ghost use Rattle.drives.specs.Plain.{memory_plain};
 
 use super::single;
 use bank::{Bank, Cause, Plain, SECTOR, Source};
@@ -122,4 +123,6 @@ impl Bank for Memory<'_> {
     }
 }
 
-impl Plain for Memory<'_> {}
+impl Plain for Memory<'_> {
+    ghost plainly = { memory_plain };
+}

@@ -8,5 +8,5 @@ use Rattle.lines.proofs.decimal.number.Goals as goal
 pub returns : goal.returns
 returns c =
     let word = c.args.word.now in
-    let signed = starts_char 43 word c.starts-with.result c.starts-with.ensures.cases (omega arith) (omega arith) in
-    c.ok.ensures.value ∙ number_from word c.parse.result (parse_plain own 64 word c.parse.result c.parse.ensures.reads.0 (not_from_Decides c.starts-with.result signed c.if-starts-with.false))
+    let signed = starts_char 43 word c.starts_with.result c.starts_with.ensures.cases (omega arith) (omega arith) in
+    c.ok.ensures.value ∙ number_from word c.parse.result (parse_plain own 64 word c.parse.result c.parse.ensures.value.0 (not_from_Decides c.starts_with.result signed c.if-starts_with.false))

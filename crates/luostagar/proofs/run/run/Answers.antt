@@ -7,4 +7,4 @@ always P (Ok x) p = p
 always P (Err y) p = tt
 
 pub returns-in-Ok : goal.returns-in-Ok
-returns-in-Ok c = always _ c.sum-up.result c.in-Ok.ensures
+returns-in-Ok c = always _ c.sum_up.result c.in-Ok.ensures

@@ -8,7 +8,7 @@ use Rattle.script.proofs.cut.split.Goals as goal
 
 pub returns : goal.returns
 returns c =
-    let words = c.in-ok-collect.field-0 in
+    let words = c.in_ok-collect.field-0 in
     let whole : c.args.text.now ≡ join_with_byte 32 (texts (vec_items words)) = search (rules, chains) in
     let apart : (k : ℕ) (d : Bor (List ℕ)) → k < vec_len words → LacksByte 32 (get_or (vec_items words) k d).now = search (rules, chains) in
     let some : 0 < vec_len words = search (rules, chains) in

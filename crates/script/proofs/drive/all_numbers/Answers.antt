@@ -5,11 +5,11 @@ use Rattle.lines.specs.Texts.{texts}
 use Rattle.script.proofs.Drives.{no_number, one_number, onto_none}
 use Rattle.script.proofs.drive.all_numbers.Goals as goal
 
-pub returns-in-default : goal.returns-in-default
-returns-in-default c = inr (no_number c.args.words.now c.loop-word.word-index _ c.loop-word-test.true c.args.part _ _ c.loop-word.invariant c.in-default.ensures)
+pub returns-in_default : goal.returns-in_default
+returns-in_default c = inr (no_number c.args.words.now c.loop-word.word-index _ c.loop-word-test.true c.args.part _ _ c.loop-word.invariant c.in_default.ensures)
 
 pub loop-word-preserved : goal.loop-word-preserved
-loop-word-preserved c = one_number c.args.words.now c.loop-word.word-index _ c.loop-word-test.true c.args.part _ _ c.loop-word.invariant _ _ c.in-Some.ensures c.in-ok-push.ensures.items
+loop-word-preserved c = one_number c.args.words.now c.loop-word.word-index _ c.loop-word-test.true c.args.part _ _ c.loop-word.invariant _ _ c.in-Some.ensures c.in_ok-push.ensures.items
 
 pub returns : goal.returns
 returns c =

@@ -20,4 +20,4 @@ pub returns : goal.returns
 returns c =
     let h = c.if-ne.ensures in
     let due = name_first c.args.name.now c.args.part c.in-Some.first.now c.args.words.now c.in-Some.ensures.word (h.1.0 (not-false h.0 (sym h.2))) c.if-words-eq1.false in
-    subst (λ due. Read vec_items due c.all-numbers.result) (ap (λ l. numbers c.args.part (texts l)) (take_rest c.args.words.now 1) ∙ sym due) c.all-numbers.ensures
+    subst (λ due. Read vec_items due c.all_numbers.result) (ap (λ l. numbers c.args.part (texts l)) (take_rest c.args.words.now 1) ∙ sym due) c.all_numbers.ensures

@@ -10,8 +10,8 @@ pub returns : goal.returns
 returns c =
     let m = c.args.self.now in
     let k = memory m.bytes.now m.unreadable.now m.unwritable.now in
-    let told = c.in-ok-source.ensures in
-    let f = readable k c.args.drive c.args.sector (sym (ap refusal told) ∙ source_free c.in-ok-source.source) in
+    let told = c.in_ok-source.ensures in
+    let f = readable k c.args.drive c.args.sector (sym (ap refusal told) ∙ source_free c.in_ok-source.source) in
     let due = read_sized (one_drive k) c.args.drive c.args.sector _ c.if-place-ne-SECTOR.false in
     record {
       answer = told ∙ sym due;

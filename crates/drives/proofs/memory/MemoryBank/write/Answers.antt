@@ -23,12 +23,12 @@ pub returns : goal.returns
 returns c =
     let m = c.args.self.now in
     let k = memory m.bytes.now m.unreadable.now m.unwritable.now in
-    let f = writable k c.args.drive c.args.sector (sym c.in-default.ensures) in
+    let f = writable k c.args.drive c.args.sector (sym c.in_default.ensures) in
     let full = c.if-bytes-ne-SECTOR.false in
     let due = write_sized (one_drive k) c.args.drive c.args.sector _ full ∙ f.1 in
     let stored = c.store.ensures in
     rw due (record {
       answer = refl;
       after = memory_stored m.bytes.now m.unreadable.now m.unwritable.now _ _ _ _ f.0 full stored;
-      kept = λ h. memory_bytes m.bytes.now m.unreadable.now m.unwritable.now _ _ _ _ f.0 full stored h (λ k. (c.type-inv.bytes k).fits);
+      kept = λ h. memory_bytes m.bytes.now m.unreadable.now m.unwritable.now _ _ _ _ f.0 full stored h (λ k. (c.type_inv.bytes k).fits);
     })

@@ -5,21 +5,21 @@ use Rattle.lines.specs.Texts.{texts}
 use Rattle.script.proofs.Drives.{front_texts, back_texts, read_on}
 use Rattle.script.proofs.drive.Drive.with_lists.Goals as goal
 
-pub returns-in-err-unreadable : goal.returns-in-err-unreadable
-returns-in-err-unreadable c =
-    let front = front_texts c.args.words.now c.split-at.result.0.now c.seam.result _ c.split-at.ensures.front c.seam.ensures.value in
-    let p = err_from_is_err_and c.from-residual.result c.from-residual.ensures.1 in
-    rw (p.1, p.2, ← front) (read_on _ _ _ c.in-err-unreadable.ensures)
+pub returns-in_err-unreadable : goal.returns-in_err-unreadable
+returns-in_err-unreadable c =
+    let front = front_texts c.args.words.now c.split_at.result.0.now c.seam.result _ c.split_at.ensures.front c.seam.ensures.value in
+    let p = err_from_is_err_and c.from_residual.result c.from_residual.ensures.1 in
+    rw (p.1, p.2, ← front) (read_on _ _ _ c.in_err-unreadable.ensures)
 
-pub returns-in-err-unwritable : goal.returns-in-err-unwritable
-returns-in-err-unwritable c =
-    let front = front_texts c.args.words.now c.split-at.result.0.now c.seam.result _ c.split-at.ensures.front c.seam.ensures.value in
-    let back = back_texts c.args.words.now c.split-at.result.1.now c.seam.result _ c.split-at.ensures.back c.seam.ensures.value in
-    let p = err_from_is_err_and c.from-residual-in-err-unwritable.result c.from-residual-in-err-unwritable.ensures.1 in
-    rw (p.1, p.2, ← front, c.in-ok-unreadable.ensures, ← back) (read_on _ _ _ c.in-err-unwritable.ensures)
+pub returns-in_err-unwritable : goal.returns-in_err-unwritable
+returns-in_err-unwritable c =
+    let front = front_texts c.args.words.now c.split_at.result.0.now c.seam.result _ c.split_at.ensures.front c.seam.ensures.value in
+    let back = back_texts c.args.words.now c.split_at.result.1.now c.seam.result _ c.split_at.ensures.back c.seam.ensures.value in
+    let p = err_from_is_err_and c.from_residual-in_err-unwritable.result c.from_residual-in_err-unwritable.ensures.1 in
+    rw (p.1, p.2, ← front, c.in_ok-unreadable.ensures, ← back) (read_on _ _ _ c.in_err-unwritable.ensures)
 
 pub returns : goal.returns
 returns c =
-    let front = front_texts c.args.words.now c.split-at.result.0.now c.seam.result _ c.split-at.ensures.front c.seam.ensures.value in
-    let back = back_texts c.args.words.now c.split-at.result.1.now c.seam.result _ c.split-at.ensures.back c.seam.ensures.value in
-    rw (← front, c.in-ok-unreadable.ensures, ← back, c.in-ok-unwritable.ensures)
+    let front = front_texts c.args.words.now c.split_at.result.0.now c.seam.result _ c.split_at.ensures.front c.seam.ensures.value in
+    let back = back_texts c.args.words.now c.split_at.result.1.now c.seam.result _ c.split_at.ensures.back c.seam.ensures.value in
+    rw (← front, c.in_ok-unreadable.ensures, ← back, c.in_ok-unwritable.ensures)
