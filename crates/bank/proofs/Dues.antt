@@ -1,7 +1,7 @@
 -- The end that is due at a place of the right size and at one of another, and what answers tell.
-use Rattle.std.proofs.Common.{◌≡◌, ℕ, None, refl, ◌∙◌}
+use Rattle.std.proofs.Common.{◌≡◌, ℕ, None, refl}
 use Rattle.std.proofs.lemmas.Bool.{eq-eqb, ne_eqb, cond-true, cond-false}
-use Rattle.bank.specs.Meaning.{Meaning, ReadEnd, WriteEnd, unread, unwritten, read_due, write_due, refusal}
+use Rattle.bank.specs.Meaning.{Meaning, unread, unwritten, read_due, write_due, refusal}
 use Rattle.bank.specs.Told.{told_source}
 use Rattle.bank.specs.declared.source.Source.{Source}
 use Rattle.bank.specs.declared.source.Source.TheVariants as source

@@ -1,9 +1,9 @@
 -- One drive, no drive and two banks side by side are lawful and plain.
-use Rattle.std.proofs.Common.{◌≡◌, ℕ, ◌+◌, ◌-◌, ◌^◌, ◌<◌, ◌≤◌, min, Bool, true, false, cond, ◌&&◌, eqb, ltb, leb, ◌⊎◌, List, [], ◌∷◌, ◌++◌, map, length, get_or, replicate, Some, None, Option, sym, refl, ap, ◌∙◌, inl, inr, ⊎_elim, arith}
+use Rattle.std.proofs.Common.{◌≡◌, ℕ, ◌-◌, ◌^◌, ◌<◌, ◌≤◌, Bool, true, false, cond, ◌&&◌, eqb, ltb, leb, ◌⊎◌, [], ◌∷◌, map, Some, None, Option, refl, ap, ◌∙◌, inl, inr, ⊎_elim, arith}
 use Rattle.std.proofs.lemmas.Bool.{lt-ltb, le-ltb, le-leb, lt-leb, eq-eqb, ne_eqb, eqb-true, cond_both, cases_lt, cases_Bool, cond-true, cond-false, and_parts, and_from, ltb-true, leb-false}
 use Rattle.std.proofs.lemmas.List.{length-replicate, get_or-replicate}
 use Rattle.bank.specs.Due.{first_due}
-use Rattle.bank.specs.Meaning.{Cell, at, ReadEnd, cell, zeros, unread, WriteEnd, cells, unwritten, Meaning, Lawful, Plainly, Sector, Own, refusal, cause_of, cells_of}
+use Rattle.bank.specs.Meaning.{at, ReadEnd, cell, zeros, unread, WriteEnd, cells, unwritten, Meaning, Lawful, Plainly, Sector, Own, refusal, cause_of, cells_of}
 use Rattle.bank.specs.Shapes.{Disk, read_causes, write_causes, own_read, own_write, blank, one_drive, no_drives, moved, moved_read, moved_write, both_drives, by_side, beside}
 
 pub blank_sector : Sector blank

@@ -1,5 +1,4 @@
 -- What the drives of this crate mean as banks, when they stand, and that they are then lawful.
-use Rattle.std.specs.Prelude.{List}
 use Rattle.std.proofs.Common.{arith}
 use Rattle.bank.specs.Meaning.{Meaning, Lawful}
 use Rattle.bank.specs.Shapes.{one_drive}

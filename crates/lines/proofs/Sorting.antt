@@ -1,10 +1,7 @@
 -- What the tests of a line's bytes tell of its kind.
-use Rattle.std.proofs.Common.{◌≡◌, ℕ, zero, suc, ◌+◌, ◌<◌, ◌≤◌, Bool, true, false, cond, ◌&&◌, ◌||◌, eqb, ltb, List, [], ◌∷◌, ◌++◌, length, get_or, drop, Some, None, codes, IsUtf8, IsAscii, Option, sym, refl, ap, ◌∙◌, ⊎_elim, arith}
+use Rattle.std.proofs.Common.{◌≡◌, ℕ, zero, suc, ◌≤◌, true, false, cond, eqb, List, [], ◌∷◌, length, get_or, Some, None, codes, IsUtf8, IsAscii, sym, refl, ap, ⊎_elim, arith}
 use Rattle.std.proofs.lemmas.Bool.{lt-ltb, le-ltb, and_from, and_left, and_right, cases_Bool, ltb-true, and_parts, cond_both, eqb-true, eqb-false}
 use Rattle.std.proofs.lemmas.Str.{IsUtf8-from_ascii}
-use Rattle.std.specs.Str.Iter.{LacksByte}
-use Rattle.std.specs.List.{join_with_byte, AllByRecursion as All}
-use Rattle.std.proofs.lemmas.List.{length-map, at_drop_more}
 use Rattle.lines.specs.Kinds.{ascii, kind_of, command, expected, skipped}
 use Rattle.lines.specs.Texts.{behind}
 

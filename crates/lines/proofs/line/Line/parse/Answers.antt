@@ -1,4 +1,3 @@
-use Rattle.std.proofs.Common.{sym, ap, ◌∙◌, rules}
 use Rattle.lines.proofs.Sorting.{ascii_true, ascii_false, not_ascii}
 use Rattle.lines.proofs.line.Line.parse.Goals as goal
 

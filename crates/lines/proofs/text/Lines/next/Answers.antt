@@ -1,4 +1,4 @@
-use Rattle.std.proofs.Common.{refl, arith, rules}
+use Rattle.std.proofs.Common.{rules}
 use Rattle.std.proofs.lemmas.List.{nil_from_length}
 use Rattle.lines.proofs.Newlines.{first_line, shorter_rest}
 use Rattle.lines.proofs.text.Lines.next.Goals as goal
