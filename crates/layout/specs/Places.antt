@@ -1,5 +1,5 @@
 -- What the places of a layout mean, and what a script's plan of a drive means.
-use Rattle.std.specs.Prelude.{ℕ, ◌*◌, List, [], ◌∷◌, replicate, vec_items}
+use Rattle.std.specs.Prelude.{◌*◌, List, [], ◌∷◌, replicate, vec_items}
 use Rattle.bank.specs.Meaning.{Meaning}
 use Rattle.bank.specs.Shapes.{one_drive, no_drives}
 use Rattle.drives.specs.Disks as disks

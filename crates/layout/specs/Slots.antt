@@ -1,8 +1,9 @@
 -- What a slot means: the bank of the drive in it, or a bank of no drive.
-use Rattle.bank.specs.Meaning.{Meaning, Lawful}
+use Rattle.bank.specs.Meaning.{Meaning, Lawful, Plainly}
 use Rattle.bank.specs.Shapes.{no_drives}
-use Rattle.bank.proofs.Shapes.{no_drives_lawful}
+use Rattle.bank.proofs.Shapes.{no_drives_lawful, no_drives_plain}
 use Rattle.drives.specs.Means.{memory_means, MemoryStands, memory_lawful, rom_means, RomStands, rom_lawful}
+use Rattle.drives.specs.Plain.{memory_plain, rom_plain}
 use Rattle.layout.specs.declared.slot.Slot.{Slot}
 use Rattle.layout.specs.declared.slot.Slot.TheVariants.{Memory, Rom, Nothing}
 
@@ -20,3 +21,8 @@ pub slot_lawful : (s : Slot) → SlotStands s → Lawful (slot_means s)
 slot_lawful (Memory m) h = memory_lawful m h
 slot_lawful (Rom r) h = rom_lawful r h
 slot_lawful Nothing h = no_drives_lawful
+
+pub slot_plain : (s : Slot) → Plainly (slot_means s)
+slot_plain (Memory m) = memory_plain m
+slot_plain (Rom r) = rom_plain r
+slot_plain Nothing = no_drives_plain

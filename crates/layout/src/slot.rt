@@ -1,7 +1,7 @@
 // A place for a drive that a script chooses: a memory drive, a ROM drive or nothing. It is a plain bank of one drive or none.
 ghost use Rattle.std.specs.Prelude.{◌≡◌, if◌then◌else◌, nat_eq};
 ghost use Rattle.bank.specs.Told.{number_of};
-ghost use Rattle.layout.specs.Slots.{slot_means, SlotStands, slot_lawful};
+ghost use Rattle.layout.specs.Slots.{slot_means, SlotStands, slot_lawful, slot_plain};
 
 use bank::{Bank, Cause, Plain, SECTOR, Source};
 use drives::{Memory, Rom};
@@ -69,7 +69,9 @@ impl Bank for Slot<'_> {
     }
 }
 
-impl Plain for Slot<'_> {}
+impl Plain for Slot<'_> {
+    ghost plainly = { slot_plain };
+}
 
 // The cause of a drive that is absent, at a place or data of that many bytes.
 fn absent(size: usize) -> Cause

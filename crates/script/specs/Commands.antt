@@ -1,12 +1,11 @@
 -- The commands that ask a bank, as the words of a line say them.
-use Rattle.std.specs.Prelude.{ℕ, cond, List, [], ◌∷◌, Some, None, Ok, Err, codes, Option, Result}
+use Rattle.std.specs.Prelude.{ℕ, cond, List, Some, None, Ok, Err, codes, Option, Result}
 use Rattle.std.specs.List.{slice_get}
 use Rattle.std.specs.Str.{bytes_eq}
 use Rattle.script.specs.declared.command.BankCommand.{BankCommand}
 use Rattle.script.specs.declared.command.BankCommand.TheVariants.{Count, Length, Ends, Get, Put}
 use Rattle.lines.specs.declared.fault.Fault.{Fault}
 use Rattle.lines.specs.declared.fault.Fault.TheVariants.{MissingWord, UnknownCommand, NotBank}
-use Rattle.lines.specs.declared.fault.Part.{Part}
 use Rattle.lines.specs.declared.fault.Part.TheVariants.{Command, Bank, Sector, Seed}
 use Rattle.script.specs.Words.{then, number_at, drive_at, end_at, size_at}
 

@@ -1,5 +1,5 @@
 -- The drives of a script, as the words of a line say them.
-use Rattle.std.specs.Prelude.{◌≡◌, ℕ, ◌+◌, ◌^◌, cond, not, ◌⊎◌, List, [], ◌∷◌, ◌++◌, take, drop, Ok, Err, vec_items, codes, Result}
+use Rattle.std.specs.Prelude.{◌≡◌, ℕ, ◌+◌, ◌^◌, cond, ◌⊎◌, List, [], ◌∷◌, ◌++◌, take, drop, Ok, Err, vec_items, codes, Result}
 use Rattle.std.specs.Option.{ok_or}
 use Rattle.std.specs.Str.{bytes_eq}
 use Rattle.script.specs.declared.drive.Drive.{Drive}

@@ -1,5 +1,5 @@
 -- What a bank's meaning makes of a command.
-use Rattle.std.specs.Prelude.{◌≡◌, ℕ, List, [], length, replicate, Some, None, Option, Result}
+use Rattle.std.specs.Prelude.{ℕ, List, [], length, replicate, Option}
 use Rattle.std.specs.Option.{option_map}
 use Rattle.bank.specs.Meaning.{Cell, Meaning, ReadEnd, read_due, write_due, cause_of, cells_of, filled}
 use Rattle.bank.specs.Told.{number_of, told_read, told_write}

@@ -1,5 +1,5 @@
 -- The counts of a script and the line that sums them up.
-use Rattle.std.specs.Prelude.{ℕ, ◌+◌, ◌-◌, ◌^◌, min, Bool, true, false, cond, ◌||◌, List, ◌++◌, codes, decimal, nat_lt}
+use Rattle.std.specs.Prelude.{ℕ, ◌+◌, Bool, true, false, cond, ◌||◌, List, ◌++◌, codes, decimal, nat_lt}
 use Rattle.lines.specs.Rest.{more}
 use Rattle.session.specs.declared.tally.Tally.{Tally}
 

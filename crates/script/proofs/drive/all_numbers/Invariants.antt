@@ -1,4 +1,4 @@
-use Rattle.std.proofs.Common.{◌≡◌, ◌++◌, drop, vec_items}
+use Rattle.std.proofs.Common.{◌≡◌, drop, vec_items}
 use Rattle.script.specs.Drives.{numbers, onto}
 use Rattle.lines.specs.Texts.{texts}
 use Rattle.script.proofs.drive.all_numbers.Given as goal

@@ -1,4 +1,4 @@
-use Rattle.std.proofs.Common.{ap, ◌∙◌, rules}
+use Rattle.std.proofs.Common.{ap, ◌∙◌}
 use Rattle.std.specs.Option.{option_map}
 use Rattle.script.proofs.Places.{picked, inside, mapped_twice}
 use Rattle.script.proofs.words.word_at.Goals as goal

@@ -1,6 +1,5 @@
 use Rattle.std.proofs.Common.{◌≤◌, length, refl, arith, rules}
 use Rattle.std.proofs.lemmas.List.{take_rest}
-use Rattle.lines.specs.Texts.{texts}
 use Rattle.script.proofs.Drives.{back_texts}
 use Rattle.script.proofs.Places.{placed}
 use Rattle.script.proofs.drive.Drive.memory.Goals as goal

@@ -1,7 +1,4 @@
-use Rattle.std.proofs.Common.{◌≡◌, take, drop, sym, ap, ◌∙◌}
 use Rattle.std.proofs.lemmas.Result.{err_from_is_err_and}
-use Rattle.script.specs.Drives.{seam_in}
-use Rattle.lines.specs.Texts.{texts}
 use Rattle.script.proofs.Drives.{front_texts, back_texts, read_on}
 use Rattle.script.proofs.drive.Drive.with_lists.Goals as goal
 
