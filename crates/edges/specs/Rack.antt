@@ -1,9 +1,9 @@
 -- A plain bank of n drives with one sector each, which can't be written.
-use Rattle.std.specs.Prelude.{◌≡◌, ℕ, ◌^◌, ◌<◌, ◌≤◌, Bool, true, false, cond, List, [], ◌∷◌, nat_le, nat_lt, refl}
-use Rattle.std.proofs.Common.{ap, ⊎_elim, arith}
+use Rattle.std.specs.Prelude.{ℕ, ◌^◌, ◌<◌, ◌≤◌, true, cond, [], ◌∷◌, nat_le, nat_lt, refl}
+use Rattle.std.proofs.Common.{⊎_elim, arith}
 use Rattle.std.proofs.lemmas.Bool.{le-leb, lt-leb, le-ltb, lt-ltb, cases_lt, cond_both, cond-true, cond-false}
 use Rattle.bank.specs.Due.{first_due}
-use Rattle.bank.specs.Meaning.{Meaning, Lawful, unread, unwritten}
+use Rattle.bank.specs.Meaning.{Meaning, Lawful}
 use Rattle.bank.specs.Shapes.{own_read, own_write, blank}
 use Rattle.bank.proofs.Shapes.{blank_sector}
 

@@ -6,6 +6,7 @@ mod run;
 use lines::{Fault, Lines};
 use run::{Trouble, run};
 use std::io::Read;
+use std::process::ExitCode;
 use std::{env, fmt, fs, io};
 
 const HELP: &str = "luostagar: tries a layout of drives by a script
@@ -28,16 +29,24 @@ Other lines:
     # TEXT               says something to the reader; so does an empty line
 ";
 
-fn main(rt: HostRuntime) -> io::Result<()> {
+// An error of a script or a file is named where it is met. Of any other the status alone tells.
+fn main(rt: HostRuntime) -> ExitCode {
+    match start(&rt) {
+        Ok(()) => ExitCode::SUCCESS,
+        Err(_) => ExitCode::FAILURE,
+    }
+}
+
+fn start(rt: &HostRuntime) -> io::Result<()> {
     let mut names = Vec::new(rt.alloc());
-    for name in env::args(&rt)?.skip(1) {
+    for name in env::args(rt)?.skip(1) {
         names.push(name)?;
     }
     match names.as_slice() {
-        [] => run_input(&rt),
+        [] => run_input(rt),
         [only] if only.as_str() == "--help" => rt.print(HELP),
-        [only] => run_alone(&rt, &read(&rt, only.as_str())?),
-        _ => run_all(&rt, &names),
+        [only] => run_alone(rt, &read(rt, only.as_str())?),
+        _ => run_all(rt, &names),
     }
 }
 
