@@ -1,7 +1,7 @@
 -- The words of a text, and the search for an empty one.
 use Rattle.std.proofs.Common.{◌≡◌, ℕ, suc, ◌+◌, ◌<◌, Bool, true, false, ◌||◌, eqb, List, [], ◌∷◌, length, get_or, drop, sym, ap, ◌∙◌, arith, Bor}
 use Rattle.std.specs.Str.Iter.{LacksByte}
-use Rattle.std.specs.List.{join_with_byte, AllByRecursion as All}
+use Rattle.std.specs.List.{join_with_byte, AllByRecursion}
 use Rattle.std.proofs.lemmas.List.{length-map, at_drop_more}
 use Rattle.lines.specs.Texts.{texts}
 use Rattle.script.specs.Cuts.{Cut, hollow}
@@ -10,7 +10,7 @@ use Rattle.script.specs.Cuts.{Cut, hollow}
 pub cut_by : (text : List ℕ) (refs : List (Bor (List ℕ))) → text ≡ join_with_byte 32 (texts refs) → ((k : ℕ) (d : Bor (List ℕ)) → k < length refs → LacksByte 32 (get_or refs k d).now) → 0 < length refs → Cut text (texts refs)
 cut_by text refs whole apart some = record { whole = sym whole; apart = each refs apart; some = omega (arith, length-map refs (λ r. r.now)) }
   where
-    each : (rs : List (Bor (List ℕ))) → ((k : ℕ) (d : Bor (List ℕ)) → k < length rs → LacksByte 32 (get_or rs k d).now) → All (LacksByte 32) (texts rs)
+    each : (rs : List (Bor (List ℕ))) → ((k : ℕ) (d : Bor (List ℕ)) → k < length rs → LacksByte 32 (get_or rs k d).now) → AllByRecursion (LacksByte 32) (texts rs)
     each [] h = tt
     each (r ∷ rs) h = (h 0 r (omega arith), each rs (λ k d l. h (suc k) d (omega arith)))
 
