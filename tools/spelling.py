@@ -2,7 +2,8 @@
 """Spells the repository's own definitions and lemmas in snake case: first-due becomes first_due.
 
 Run once, at the top of the repository. A name counts as the repository's own where a file of specs/ or proofs/ declares it:
-a definition, a lemma, a record's field or a constructor. Functions of src/, strings, inputs and outputs keep their names.
+a definition, a lemma, a record's field or a constructor. It goes by words: in specs/ and proofs/ it reads whole files, in
+src/ only clauses, ghost items and their imports. So functions of src/, inputs and outputs keep their names.
 It stops, and writes nothing, where two names would fall together.
 """
 
@@ -13,6 +14,8 @@ import sys
 NAME = r"[^\s(){}\[\],;:@\"`.|]+"
 DECLARED = re.compile(r"^\s*(?:unfoldable |abbrev )?(?:pub )?(?:record |data )?(" + NAME + r")(?: \([^)]*\))* :(?= )")
 FUNCTION = re.compile(r"\bfn (\w+)")
+# How the goals begin that the checker names.
+GOALS = ("returns-", "loop-", "invariant-", "decreases-", "slice-bounds-", "slice_bounds-")
 
 
 def read(path):
@@ -33,7 +36,7 @@ def renamings():
     names = set()
     for path in sources():
         names |= declared(read(path))
-    own = {n for n in names if "-" in n and not n.startswith(("returns-", "loop-", "invariant-", "decreases-", "slice-bounds-"))}
+    own = {n for n in names if "-" in n and not n.startswith(GOALS)}
     return names, {n: n.replace("-", "_") for n in own}
 
 
@@ -54,6 +57,9 @@ def respelled(line, pattern, to):
 
 def main():
     names, to = renamings()
+    if not to:
+        print("no name of the repository's own has a dash")
+        return 0
     both = fallen(names, to)
     if both:
         print("these would fall together: " + ", ".join(both), file=sys.stderr)
