@@ -41,7 +41,7 @@ def renamings():
 
 
 def fallen(names, to):
-    """Pairs of names that would be one name."""
+    """The names that two of the old ones would share."""
     new = list(to.values())
     return sorted(n for n in set(new) if n in names or new.count(n) > 1)
 
@@ -51,8 +51,13 @@ def clauses(text):
     return [bool(re.match(r"\s*(ghost|ensures|requires)\b", line)) for line in text.splitlines()]
 
 
-def respelled(line, pattern, to):
-    return pattern.sub(lambda m: to[m.group(0)], line)
+def rewrite(path, turn):
+    """Writes what turn makes of a file's text, if that is another text."""
+    text = read(path)
+    new = turn(text)
+    if new != text:
+        with open(path, "w", encoding="utf-8") as f:
+            f.write(new)
 
 
 def main():
@@ -66,21 +71,20 @@ def main():
         return 1
     edge = r"[^\s(){}\[\],;:@\"`.|λ]"
     pattern = re.compile("(?<!" + edge + ")(?:" + "|".join(map(re.escape, sorted(to, key=len, reverse=True))) + ")(?!" + edge + ")")
+
+    def respelled(text):
+        return pattern.sub(lambda m: to[m.group(0)], text)
+
+    def respelled_clauses(text):
+        lines = text.split("\n")
+        return "\n".join(respelled(l) if c else l for l, c in zip(lines, clauses(text) + [False]))
+
     for path in sources():
-        text = read(path)
-        new = respelled(text, pattern, to)
-        if new != text:
-            with open(path, "w", encoding="utf-8") as f:
-                f.write(new)
+        rewrite(path, respelled)
     functions = set()
     for path in sorted(glob.glob("crates/*/src/**/*.rt", recursive=True)):
-        text = read(path)
-        functions |= set(FUNCTION.findall(text))
-        lines = text.split("\n")
-        new = "\n".join(respelled(l, pattern, to) if c else l for l, c in zip(lines, clauses(text) + [False]))
-        if new != text:
-            with open(path, "w", encoding="utf-8") as f:
-                f.write(new)
+        functions |= set(FUNCTION.findall(read(path)))
+        rewrite(path, respelled_clauses)
     for old in sorted(to):
         print(f"{old} {to[old]}" + (" (a function of src/ has that name too)" if to[old] in functions else ""))
     return 0

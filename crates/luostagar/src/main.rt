@@ -1,6 +1,9 @@
 // The program: runs scripts from standard input or from files, each on a bank of its own.
 #![tactic(auto)]
 
+ghost use Rattle.std.specs.Prelude.{◌≡◌, if◌then◌else◌, is_ok};
+ghost use Rattle.std.specs.Process.{exit_status};
+
 mod run;
 
 use lines::{Fault, Lines};
@@ -29,9 +32,15 @@ Other lines:
     # TEXT               says something to the reader; so does an empty line
 ";
 
-// An error of a script or a file is named where it is met. Of any other the status alone tells.
 fn main(rt: HostRuntime) -> ExitCode {
-    match start(&rt) {
+    status(start(&rt))
+}
+
+// An error of a script or a file is named where it is met. Of any other the status alone tells.
+fn status(ended: io::Result<()>) -> ExitCode
+    ensures { exit_status result ≡ (if is_ok ended then 0 else 1) }
+{
+    match ended {
         Ok(()) => ExitCode::SUCCESS,
         Err(_) => ExitCode::FAILURE,
     }
