@@ -21,5 +21,5 @@ module _ (m : Meaning) (d s n : ℕ) where
 
 -- what was read from is no cause
 pub source_free : (s : Source) → refusal (told_source s) ≡ None
-source_free (source.Cell d s) = refl
+source_free (source.Cell a) = refl
 source_free source.Zeros = refl

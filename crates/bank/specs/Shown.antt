@@ -10,5 +10,5 @@ cause_text cause = codes "cause " ++ decimal (number_of cause)
 
 -- a cell as 8:N@S
 abbrev pub source_text : Source → List ℕ
-source_text (Cell drive sector) = codes "8:" ++ (decimal drive ++ (codes "@" ++ decimal sector))
+source_text (Cell a) = codes "8:" ++ (decimal a.drive ++ (codes "@" ++ decimal a.sector))
 source_text Zeros = codes "zeros"

@@ -19,7 +19,7 @@ number_of FlakeyDown = 7
 number_of WrongSize = 8
 
 abbrev pub told_source : Source → ReadEnd
-told_source (source.Cell d s) = cell (at d s)
+told_source (source.Cell a) = cell (at a.drive a.sector)
 told_source Zeros = zeros
 
 -- what a read or a question for a read end answered

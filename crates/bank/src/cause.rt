@@ -21,7 +21,15 @@ impl Cause {
     pub fn number(self) -> u8
         ensures { result ≡ number_of self }
     {
-        match self {
+        u8::from(self)
+    }
+}
+
+impl From<Cause> for u8 {
+    ghost from_gives = { λ cause number. number ≡ number_of cause };
+
+    fn from(cause: Cause) -> u8 {
+        match cause {
             Cause::NoDrive => 1,
             Cause::PastEnd => 2,
             Cause::Unreadable => 3,
@@ -38,7 +46,6 @@ impl fmt::Display for Cause {
     ghost output = { λ cause. Some (cause_text cause) };
 
     fn fmt<W: fmt::Write>(&self, f: &mut fmt::Formatter<W>) -> fmt::Result {
-        let number = self.number();
-        write!(f, "cause {number}")
+        write!(f, "cause {}", self.number())
     }
 }

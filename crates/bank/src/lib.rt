@@ -2,10 +2,12 @@
 // A bank's meaning is in specs/Meaning.antt; the methods here answer from it.
 #![tactic(auto)]
 
+mod address;
 mod cause;
 mod source;
 mod traits;
 
+pub use address::Address;
 pub use cause::Cause;
 pub use source::Source;
 pub use traits::{Bank, Plain};

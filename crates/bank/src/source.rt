@@ -2,11 +2,12 @@
 ghost use Rattle.std.specs.Prelude.{Some};
 ghost use Rattle.bank.specs.Shown.{source_text};
 
+use super::address::Address;
 use std::fmt;
 
 #[derive(Clone, Copy, PartialEq, Eq, Debug)]
 pub enum Source {
-    Cell { drive: u8, sector: u64 },
+    Cell(Address),
     Zeros,
 }
 
@@ -16,7 +17,7 @@ impl fmt::Display for Source {
 
     fn fmt<W: fmt::Write>(&self, f: &mut fmt::Formatter<W>) -> fmt::Result {
         match self {
-            Source::Cell { drive, sector } => write!(f, "8:{drive}@{sector}"),
+            Source::Cell(cell) => write!(f, "8:{}@{}", cell.drive, cell.sector),
             Source::Zeros => f.write_str("zeros"),
         }
     }

@@ -4,6 +4,7 @@ ghost use Rattle.std.specs.Option.{option_map};
 ghost use Rattle.bank.specs.Meaning.{Meaning, Lawful, Plainly, Stored, cause_of, read_due, write_due, cells_of, filled};
 ghost use Rattle.bank.specs.Told.{number_of, told_read, told_write};
 
+use super::address::Address;
 use super::cause::Cause;
 use super::source::Source;
 
@@ -26,22 +27,22 @@ pub trait Bank {
         ensures { result ≡ (meaning self.now).size drive };
 
     // Where the bytes of a sector are read from, or why they can't be.
-    fn read_end(&self, drive: u8, sector: u64) -> Result<Source, Cause>
-        ensures { told_read result ≡ (meaning self.now).reads drive sector };
+    fn read_end(&self, address: Address) -> Result<Source, Cause>
+        ensures { told_read result ≡ (meaning self.now).reads address.drive address.sector };
 
     // Why a sector can't be written, if it can't.
-    fn write_cause(&self, drive: u8, sector: u64) -> Option<Cause>
-        ensures { option_map number_of result ≡ cause_of ((meaning self.now).writes drive sector) };
+    fn write_cause(&self, address: Address) -> Option<Cause>
+        ensures { option_map number_of result ≡ cause_of ((meaning self.now).writes address.drive address.sector) };
 
     // Fills a place of 512 bytes from a sector's read end and names that end; at a cause the place keeps its bytes.
-    fn read(&self, drive: u8, sector: u64, place: &mut [u8]) -> Result<Source, Cause>
-        ensures answer { told_read result ≡ read_due (meaning self.now) drive sector (length place.old) }
-        ensures holds { place.new ≡ filled (meaning self.now) (read_due (meaning self.now) drive sector (length place.old)) place.old };
+    fn read(&self, address: Address, place: &mut [u8]) -> Result<Source, Cause>
+        ensures answer { told_read result ≡ read_due (meaning self.now) address.drive address.sector (length place.old) }
+        ensures holds { place.new ≡ filled (meaning self.now) (read_due (meaning self.now) address.drive address.sector (length place.old)) place.old };
 
     // Puts 512 bytes into every cell of a sector's write end; at a cause no cell changes.
-    fn write(&mut self, drive: u8, sector: u64, bytes: &[u8]) -> Result<(), Cause>
-        ensures answer { told_write result ≡ cause_of (write_due (meaning self.old) drive sector (length bytes.now)) }
-        ensures after { Stored (meaning self.old) (meaning self.new) (cells_of (write_due (meaning self.old) drive sector (length bytes.now))) bytes.now }
+    fn write(&mut self, address: Address, bytes: &[u8]) -> Result<(), Cause>
+        ensures answer { told_write result ≡ cause_of (write_due (meaning self.old) address.drive address.sector (length bytes.now)) }
+        ensures after { Stored (meaning self.old) (meaning self.new) (cells_of (write_due (meaning self.old) address.drive address.sector (length bytes.now))) bytes.now }
         ensures kept { stands self.old → stands self.new };
 }
 
