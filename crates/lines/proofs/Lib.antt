@@ -1,3 +1,2 @@
-mod Newlines
 mod Numbers
 mod Sorting

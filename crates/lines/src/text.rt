@@ -1,6 +1,7 @@
 // A script's text, line by line.
-ghost use Rattle.std.specs.Prelude.{◌≡◌, ℕ, ◌<◌, ◌≤◌, [], length, drop, MatchOption, ◌≢◌, slice_index};
-ghost use Rattle.lines.specs.Rest.{First, more};
+ghost use Rattle.std.specs.Prelude.{◌≡◌};
+ghost use Rattle.std.specs.Iterator.{at_most};
+ghost use Rattle.lines.specs.Rest.{First, GivesLine, left};
 
 const NEWLINE: u8 = b'\n';
 
@@ -21,42 +22,32 @@ impl<'a> Lines<'a> {
             number: 0,
         }
     }
+}
 
-    pub fn next(&mut self) -> Option<&'a [u8]>
-        ensures line { MatchOption result (self.old.rest.now ≡ []) (λ line. First self.old.rest.now line.now self.new.rest.now) }
-        ensures shorter { MatchOption result (self.new ≡ self.old) (λ _. length self.new.rest.now < length self.old.rest.now) }
-        ensures number { MatchOption result (self.new.number ≡ self.old.number) (λ _. self.new.number ≡ more self.old.number) }
-    {
+impl<'a> Iterator for Lines<'a> {
+    type Item = &'a [u8];
+
+    ghost next_gives = { GivesLine };
+
+    ghost remaining = { λ lines. at_most (left lines) };
+
+    fn next(&mut self) -> Option<&'a [u8]> {
         if self.rest.is_empty() {
             return None;
         }
-        let (line, after) = self.rest.split_at(line_end(self.rest));
-        self.rest = tail(after);
+        let (line, rest) = first_line(self.rest);
+        self.rest = rest;
         self.number = self.number.saturating_add(1);
         Some(line)
     }
 }
 
-// All but the first byte, the newline that ended a line.
-fn tail(bytes: &[u8]) -> &[u8]
-    ensures { result.now ≡ drop 1 bytes.now }
+// The first line of a text, and what follows the newline that ends it.
+fn first_line(text: &[u8]) -> (&[u8], &[u8])
+    ensures { First text.now result.0.now result.1.now }
 {
-    match bytes {
-        [_, rest @ ..] => rest,
-        [] => bytes,
+    match text.iter().position(|byte| *byte == NEWLINE) {
+        Some(end) => (&text[..end], &text[end + 1..]),
+        None => (text, &[]),
     }
-}
-
-// How long the first line of a text is.
-fn line_end(text: &[u8]) -> usize
-    ensures within { result ≤ length text.now }
-    ensures before { (k : ℕ) → k < result → slice_index text.now k ≢ 10 }
-    ensures found { result < length text.now → slice_index text.now result ≡ 10 }
-{
-    for (at, byte) in text.iter().enumerate() {
-        if *byte == NEWLINE {
-            return at;
-        }
-    }
-    text.len()
 }
