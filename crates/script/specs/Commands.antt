@@ -27,15 +27,15 @@ length_said words = then (drive_at words 1) (λ drive. then (end_at words 2) (λ
 
 -- ends 8:N SECTOR
 abbrev pub ends_said : List (List ℕ) → Result BankCommand Fault
-ends_said words = then (drive_at words 1) (λ drive. then (number_at words 2 Sector) (λ sector. then (end_at words 3) (λ _. Ok (Ends drive sector))))
+ends_said words = then (drive_at words 1) (λ drive. then (number_at words 2 Sector) (λ sector. then (end_at words 3) (λ _. Ok (Ends (record { drive = drive; sector = sector })))))
 
 -- get 8:N SECTOR [bytes N]
 abbrev pub get_said : List (List ℕ) → Result BankCommand Fault
-get_said words = then (drive_at words 1) (λ drive. then (number_at words 2 Sector) (λ sector. then (size_at words 3) (λ size. Ok (Get drive sector size))))
+get_said words = then (drive_at words 1) (λ drive. then (number_at words 2 Sector) (λ sector. then (size_at words 3) (λ size. Ok (Get (record { drive = drive; sector = sector }) size))))
 
 -- put 8:N SECTOR SEED [bytes N]
 abbrev pub put_said : List (List ℕ) → Result BankCommand Fault
-put_said words = then (drive_at words 1) (λ drive. then (number_at words 2 Sector) (λ sector. then (number_at words 3 Seed) (λ seed. then (size_at words 4) (λ size. Ok (Put drive sector seed size)))))
+put_said words = then (drive_at words 1) (λ drive. then (number_at words 2 Sector) (λ sector. then (number_at words 3 Seed) (λ seed. then (size_at words 4) (λ size. Ok (Put (record { drive = drive; sector = sector }) seed size)))))
 
 -- A command is known by its first word.
 abbrev pub named : List (List ℕ) → List ℕ → Result BankCommand Fault

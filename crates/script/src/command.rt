@@ -8,6 +8,7 @@ ghost use Rattle.script.specs.Parsed.{told_command, command_said, Parsed};
 use super::cut::{all_solid, split};
 use super::drive::Drive;
 use super::words::{drive_at, end_at, number_at, size_at, word_at};
+use bank::Address;
 use lines::{Fault, Part};
 use std::alloc::Global;
 
@@ -18,17 +19,14 @@ pub enum BankCommand {
         drive: u8,
     },
     Ends {
-        drive: u8,
-        sector: u64,
+        address: Address,
     },
     Get {
-        drive: u8,
-        sector: u64,
+        address: Address,
         size: u64,
     },
     Put {
-        drive: u8,
-        sector: u64,
+        address: Address,
         seed: u64,
         size: u64,
     },
@@ -112,7 +110,8 @@ fn ends(words: &[&str]) -> Result<BankCommand, Fault>
     let drive = drive_at(words, 1)?;
     let sector = number_at(words, 2, Part::Sector)?;
     end_at(words, 3)?;
-    Ok(BankCommand::Ends { drive, sector })
+    let address = Address { drive, sector };
+    Ok(BankCommand::Ends { address })
 }
 
 fn get(words: &[&str]) -> Result<BankCommand, Fault>
@@ -121,11 +120,8 @@ fn get(words: &[&str]) -> Result<BankCommand, Fault>
     let drive = drive_at(words, 1)?;
     let sector = number_at(words, 2, Part::Sector)?;
     let size = size_at(words, 3)?;
-    Ok(BankCommand::Get {
-        drive,
-        sector,
-        size,
-    })
+    let address = Address { drive, sector };
+    Ok(BankCommand::Get { address, size })
 }
 
 fn put(words: &[&str]) -> Result<BankCommand, Fault>
@@ -135,9 +131,9 @@ fn put(words: &[&str]) -> Result<BankCommand, Fault>
     let sector = number_at(words, 2, Part::Sector)?;
     let seed = number_at(words, 3, Part::Seed)?;
     let size = size_at(words, 4)?;
+    let address = Address { drive, sector };
     Ok(BankCommand::Put {
-        drive,
-        sector,
+        address,
         seed,
         size,
     })

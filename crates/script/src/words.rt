@@ -5,10 +5,8 @@ ghost use Rattle.std.specs.Option.{option_map};
 ghost use Rattle.lines.specs.Texts.{texts};
 ghost use Rattle.script.specs.Words.{number_at, drive_in, drive_at, end_at, bounded, size_at};
 
+use bank::SECTOR;
 use lines::{Fault, Part, number};
-
-// A buffer has as many bytes as a sector unless a script says otherwise.
-const SECTOR: u64 = 512;
 
 const MOST_BYTES: u64 = 1 << 20;
 
@@ -68,12 +66,12 @@ pub fn at_most(value: u64, part: Part, most: u64) -> Result<u64, Fault>
     Ok(value)
 }
 
-// What may end a line: `bytes N`, the size of the buffer.
+// What may end a line: `bytes N`, the size of the buffer. It has as many bytes as a sector unless a script says otherwise.
 pub fn size_at(words: &[&str], at: usize) -> Result<u64, Fault>
     ensures { result ≡ size_at (texts words.now) at }
 {
     let Some(word) = word_at(words, at) else {
-        return Ok(SECTOR);
+        return Ok(SECTOR as u64);
     };
     if word != "bytes" {
         return Err(Fault::ExtraWord);
