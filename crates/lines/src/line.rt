@@ -14,18 +14,18 @@ pub enum Line<'a> {
 }
 
 impl<'a> Line<'a> {
+    #[tactic(auto, using(crate::proofs::Sorting::ascii_true, crate::proofs::Sorting::ascii_false, crate::proofs::Sorting::not_ascii))]
     pub fn parse(bytes: &'a [u8]) -> Result<Line<'a>, Fault>
         ensures { result_map_both told_line (λ fault. fault) result ≡ line_of bytes.now }
     {
-        let Ok(text) = from_utf8(bytes) else {
-            return Err(Fault::NotAscii);
-        };
-        if !text.is_ascii() {
-            return Err(Fault::NotAscii);
-        }
+        let text = from_utf8(bytes)
+            .ok()
+            .filter(|text| text.is_ascii())
+            .ok_or(Fault::NotAscii)?;
         Ok(Line::sort(text))
     }
 
+    #[tactic(auto, using(crate::proofs::Sorting::plain_command))]
     fn sort(text: &'a str) -> Line<'a>
         ensures { told_line result ≡ kind_of text.now }
     {
