@@ -1,11 +1,11 @@
 -- The drives of this crate: what each has on its sectors, and which of them are bad.
-use Rattle.std.specs.Prelude.{ℕ, ◌/◌, ◌^◌, ◌<◌, min, Bool, true, false, ◌||◌, List, [], ◌∷◌, length, take, replicate, ◌==◌, slice_index}
+use Rattle.std.specs.Prelude.{ℕ, ◌/◌, ◌^◌, ◌<◌, min, Bool, true, false, List, length, take, replicate, ◌==◌, slice_index}
+use Rattle.std.specs.List.{list_any}
 use Rattle.bank.specs.Shapes.{Disk, cut}
 
 -- whether a number stands in a list
 abbrev pub listed : ℕ → List ℕ → Bool
-listed n [] = false
-listed n (x ∷ xs) = x == n || listed n xs
+listed n xs = list_any (λ x. x == n) xs
 
 -- A drive over some bytes: its whole sectors, at most 2^40, with the first 8 of each list bad.
 abbrev pub memory : List ℕ → List ℕ → List ℕ → Disk

@@ -1,12 +1,14 @@
 // A drive over bytes that the caller lends, with lists of the sectors that can't be read or written.
 ghost use Rattle.std.specs.Prelude.{◌≡◌, ◌/◌, ◌^◌, ◌<◌, min, length};
+ghost use Rattle.bank.specs.Meaning.{cause_of};
 ghost use Rattle.bank.specs.Shapes.{one_drive, cut, with_sector};
-ghost use Rattle.drives.specs.Disks.{memory, Bytes};
+ghost use Rattle.bank.specs.Told.{told_write};
+ghost use Rattle.drives.specs.Disks.{memory};
 ghost use Rattle.drives.specs.Means.{memory_means, MemoryStands, memory_lawful};
 ghost use Rattle.drives.specs.Plain.{memory_plain};
 
-use super::single;
-use bank::{Bank, Cause, Plain, SECTOR, Source};
+use super::single::Extent;
+use bank::{Address, Bank, Cause, Plain, SECTOR, Source};
 
 // The most sectors that a drive has, however many bytes there are.
 const LONGEST: u64 = 1 << 40;
@@ -24,8 +26,6 @@ impl<'a> Memory<'a> {
         ensures meaning { memory_means result ≡ one_drive (memory bytes.old unreadable.now unwritable.now) }
         ensures stands { MemoryStands result }
     {
-        // Its second promise is what lets the drive stand.
-        let _ = sectors_in(bytes);
         Memory {
             bytes,
             unreadable,
@@ -33,20 +33,23 @@ impl<'a> Memory<'a> {
         }
     }
 
-    fn sectors(&self) -> u64
-        ensures { result ≡ min (length self.now.bytes.now / 512) (2 ^ 40) }
+    // The whole sectors in the bytes, at most 2^40.
+    fn extent(&self) -> Extent
+        ensures { result.sectors ≡ min (length self.now.bytes.now / 512) (2 ^ 40) }
     {
-        sectors_in(self.bytes)
+        let whole = self.bytes.len() / SECTOR;
+        Extent {
+            sectors: (whole as u64).min(LONGEST),
+        }
     }
-}
 
-// The whole sectors in some bytes, at most 2^40. A slice that was looked at is known to hold bytes.
-fn sectors_in(bytes: &[u8]) -> u64
-    ensures value { result ≡ min (length bytes.now / 512) (2 ^ 40) }
-    ensures bytes { Bytes bytes.now }
-{
-    let whole = bytes.len() / SECTOR;
-    (whole as u64).min(LONGEST)
+    // Whether a sector can be written, or why not.
+    fn writable(&self, address: Address) -> Result<(), Cause>
+        ensures { told_write result ≡ cause_of ((memory_means self.now).writes address.drive address.sector) }
+    {
+        self.extent()
+            .judge(address, self.unwritable, Cause::Unwritable)
+    }
 }
 
 // Copies a sector that the bytes have into a place of its size.
@@ -81,44 +84,34 @@ impl Bank for Memory<'_> {
     }
 
     fn length(&self, drive: u8) -> u64 {
-        if drive == 0 { self.sectors() } else { 0 }
+        self.extent().length(drive)
     }
 
-    fn read_end(&self, drive: u8, sector: u64) -> Result<Source, Cause> {
-        single::locate(drive, sector, self.sectors())?;
-        if single::marks(self.unreadable, sector) {
-            return Err(Cause::Unreadable);
-        }
-        Ok(Source::Cell { drive, sector })
+    fn read_end(&self, address: Address) -> Result<Source, Cause> {
+        self.extent()
+            .judge(address, self.unreadable, Cause::Unreadable)?;
+        Ok(Source::Cell(address))
     }
 
-    fn write_cause(&self, drive: u8, sector: u64) -> Option<Cause> {
-        if let Err(cause) = single::locate(drive, sector, self.sectors()) {
-            return Some(cause);
-        }
-        if single::marks(self.unwritable, sector) {
-            return Some(Cause::Unwritable);
-        }
-        None
+    fn write_cause(&self, address: Address) -> Option<Cause> {
+        self.writable(address).err()
     }
 
-    fn read(&self, drive: u8, sector: u64, place: &mut [u8]) -> Result<Source, Cause> {
+    fn read(&self, address: Address, place: &mut [u8]) -> Result<Source, Cause> {
         if place.len() != SECTOR {
             return Err(Cause::WrongSize);
         }
-        let source = self.read_end(drive, sector)?;
-        load(self.bytes, sector, place);
+        let source = self.read_end(address)?;
+        load(self.bytes, address.sector, place);
         Ok(source)
     }
 
-    fn write(&mut self, drive: u8, sector: u64, bytes: &[u8]) -> Result<(), Cause> {
+    fn write(&mut self, address: Address, bytes: &[u8]) -> Result<(), Cause> {
         if bytes.len() != SECTOR {
             return Err(Cause::WrongSize);
         }
-        if let Some(cause) = self.write_cause(drive, sector) {
-            return Err(cause);
-        }
-        store(self.bytes, sector, bytes);
+        self.writable(address)?;
+        store(self.bytes, address.sector, bytes);
         Ok(())
     }
 }

@@ -1,14 +1,14 @@
 // A drive that can only be read: every byte of its sector n is n.
 ghost use Rattle.std.specs.Prelude.{◌≡◌, min, Some};
-ghost use Rattle.bank.specs.Meaning.{cause_of, write_due};
+ghost use Rattle.bank.specs.Meaning.{cause_of};
 ghost use Rattle.bank.specs.Shapes.{one_drive};
 ghost use Rattle.bank.specs.Told.{number_of};
 ghost use Rattle.drives.specs.Disks.{rom};
 ghost use Rattle.drives.specs.Means.{rom_means, RomStands, rom_lawful};
-ghost use Rattle.std.proofs.Common.{rules};
+ghost use Rattle.drives.specs.Plain.{rom_plain};
 
-use super::single;
-use bank::{Bank, Cause, Plain, SECTOR, Source};
+use super::single::Extent;
+use bank::{Address, Bank, Cause, Plain, SECTOR, Source};
 
 // One sector for each value of a byte.
 const MOST: u64 = 256;
@@ -28,23 +28,20 @@ impl Rom {
         Rom { asked: sectors }
     }
 
-    fn sectors(&self) -> u64
-        ensures { result ≡ min self.now.asked 256 }
+    fn extent(&self) -> Extent
+        ensures { result.sectors ≡ min self.now.asked 256 }
     {
-        self.asked.min(MOST)
+        Extent {
+            sectors: self.asked.min(MOST),
+        }
     }
 
-    // Why a write of that many bytes is refused, as every write is.
-    fn refusal(&self, drive: u8, sector: u64, size: usize) -> Cause
-        ensures { Some (number_of result) ≡ cause_of (write_due (rom_means self.now) drive sector size) }
+    // Why a sector can't be written, as none can.
+    fn refusal(&self, address: Address) -> Cause
+        ensures { Some (number_of result) ≡ cause_of ((rom_means self.now).writes address.drive address.sector) }
     {
-        if size != SECTOR {
-            return Cause::WrongSize;
-        }
-        match single::locate(drive, sector, self.sectors()) {
-            Ok(()) => Cause::Unwritable,
-            Err(cause) => cause,
-        }
+        let missing = self.extent().locate(address).err();
+        missing.unwrap_or(Cause::Unwritable)
     }
 }
 
@@ -60,35 +57,35 @@ impl Bank for Rom {
     }
 
     fn length(&self, drive: u8) -> u64 {
-        if drive == 0 { self.sectors() } else { 0 }
+        self.extent().length(drive)
     }
 
-    fn read_end(&self, drive: u8, sector: u64) -> Result<Source, Cause> {
-        single::locate(drive, sector, self.sectors())?;
-        Ok(Source::Cell { drive, sector })
+    fn read_end(&self, address: Address) -> Result<Source, Cause> {
+        self.extent().locate(address)?;
+        Ok(Source::Cell(address))
     }
 
-    fn write_cause(&self, drive: u8, sector: u64) -> Option<Cause> {
-        match single::locate(drive, sector, self.sectors()) {
-            Ok(()) => Some(Cause::Unwritable),
-            Err(cause) => Some(cause),
-        }
+    fn write_cause(&self, address: Address) -> Option<Cause> {
+        Some(self.refusal(address))
     }
 
-    fn read(&self, drive: u8, sector: u64, place: &mut [u8]) -> Result<Source, Cause> {
+    fn read(&self, address: Address, place: &mut [u8]) -> Result<Source, Cause> {
         if place.len() != SECTOR {
             return Err(Cause::WrongSize);
         }
-        let source = self.read_end(drive, sector)?;
-        place.fill(sector as u8);
+        let source = self.read_end(address)?;
+        place.fill(address.sector as u8);
         Ok(source)
     }
 
-    fn write(&mut self, drive: u8, sector: u64, bytes: &[u8]) -> Result<(), Cause> {
-        Err(self.refusal(drive, sector, bytes.len()))
+    fn write(&mut self, address: Address, bytes: &[u8]) -> Result<(), Cause> {
+        if bytes.len() != SECTOR {
+            return Err(Cause::WrongSize);
+        }
+        Err(self.refusal(address))
     }
 }
 
 impl Plain for Rom {
-    ghost plainly = { Prim.search rules };
+    ghost plainly = { rom_plain };
 }
