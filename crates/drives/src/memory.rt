@@ -47,8 +47,8 @@ impl<'a> Memory<'a> {
     fn writable(&self, address: Address) -> Result<(), Cause>
         ensures { told_write result ≡ cause_of ((memory_means self.now).writes address.drive address.sector) }
     {
-        self.extent()
-            .judge(address, self.unwritable, Cause::Unwritable)
+        let extent = self.extent();
+        extent.judge(address, self.unwritable, Cause::Unwritable)
     }
 }
 
@@ -88,8 +88,8 @@ impl Bank for Memory<'_> {
     }
 
     fn read_end(&self, address: Address) -> Result<Source, Cause> {
-        self.extent()
-            .judge(address, self.unreadable, Cause::Unreadable)?;
+        let extent = self.extent();
+        extent.judge(address, self.unreadable, Cause::Unreadable)?;
         Ok(Source::Cell(address))
     }
 
