@@ -8,10 +8,10 @@ ghost use Rattle.bank.specs.Told.{told_write};
 ghost use Rattle.bank.proofs.Shapes.{beside_lawful, beside_plain};
 ghost use Rattle.pair.specs.Sides.{Placed};
 
-use bank::{Bank, Cause, Plain, SECTOR, Source};
+use bank::{Address, Bank, Cause, Plain, SECTOR, Source};
 
 // A bank shows no more drives than this.
-const MOST: u16 = 64;
+const MOST: u8 = 64;
 
 #[derive(Drop)]
 pub struct Pair<L, R> {
@@ -23,7 +23,6 @@ pub struct Pair<L, R> {
 enum Side {
     Left,
     Right(u8),
-    Neither,
 }
 
 impl<L: Plain, R: Plain> Pair<L, R> {
@@ -37,46 +36,23 @@ impl<L: Plain, R: Plain> Pair<L, R> {
     fn shown(&self) -> u8
         ensures { result ≡ both_drives (L.Bank.meaning self.now.left) (R.Bank.meaning self.now.right) }
     {
-        let all = self.left.count() as u16 + self.right.count() as u16;
-        all.min(MOST) as u8
+        let all = self.left.count().saturating_add(self.right.count());
+        all.min(MOST)
     }
 
-    fn side(&self, drive: u8) -> Side
+    // The side of a drive that is shown, or the cause for which there is none.
+    fn side(&self, drive: u8) -> Result<Side, Cause>
         ensures { Placed (L.Bank.meaning self.now.left) (R.Bank.meaning self.now.right) drive result }
     {
         if drive >= self.shown() {
-            return Side::Neither;
+            return Err(Cause::NoDrive);
         }
         let left = self.left.count();
         if drive < left {
-            Side::Left
+            Ok(Side::Left)
         } else {
-            Side::Right(drive - left)
+            Ok(Side::Right(drive - left))
         }
-    }
-
-    // A write to a drive of the left bank, and to one of the right bank.
-    fn write_left(&mut self, drive: u8, sector: u64, bytes: &[u8]) -> Result<(), Cause>
-        requires shown { drive < both_drives (L.Bank.meaning self.old.left) (R.Bank.meaning self.old.right) }
-        requires placed { drive < (L.Bank.meaning self.old.left).drives }
-        requires sized { length bytes.now ≡ 512 }
-        ensures answer { told_write result ≡ cause_of (write_due (beside (L.Bank.meaning self.old.left) (R.Bank.meaning self.old.right)) drive sector (length bytes.now)) }
-        ensures after { Stored (beside (L.Bank.meaning self.old.left) (R.Bank.meaning self.old.right)) (beside (L.Bank.meaning self.new.left) (R.Bank.meaning self.new.right)) (cells_of (write_due (beside (L.Bank.meaning self.old.left) (R.Bank.meaning self.old.right)) drive sector (length bytes.now))) bytes.now }
-        ensures kept { L.Bank.stands self.old.left × R.Bank.stands self.old.right → L.Bank.stands self.new.left × R.Bank.stands self.new.right }
-    {
-        self.left.write(drive, sector, bytes)
-    }
-
-    fn write_right(&mut self, drive: u8, sector: u64, bytes: &[u8]) -> Result<(), Cause>
-        requires shown { drive < both_drives (L.Bank.meaning self.old.left) (R.Bank.meaning self.old.right) }
-        requires placed { (L.Bank.meaning self.old.left).drives ≤ drive }
-        requires sized { length bytes.now ≡ 512 }
-        ensures answer { told_write result ≡ cause_of (write_due (beside (L.Bank.meaning self.old.left) (R.Bank.meaning self.old.right)) drive sector (length bytes.now)) }
-        ensures after { Stored (beside (L.Bank.meaning self.old.left) (R.Bank.meaning self.old.right)) (beside (L.Bank.meaning self.new.left) (R.Bank.meaning self.new.right)) (cells_of (write_due (beside (L.Bank.meaning self.old.left) (R.Bank.meaning self.old.right)) drive sector (length bytes.now))) bytes.now }
-        ensures kept { L.Bank.stands self.old.left × R.Bank.stands self.old.right → L.Bank.stands self.new.left × R.Bank.stands self.new.right }
-    {
-        let there = drive - self.left.count();
-        self.right.write(there, sector, bytes)
     }
 }
 
@@ -93,54 +69,51 @@ impl<L: Plain, R: Plain> Bank for Pair<L, R> {
 
     fn length(&self, drive: u8) -> u64 {
         match self.side(drive) {
-            Side::Left => self.left.length(drive),
-            Side::Right(there) => self.right.length(there),
-            Side::Neither => 0,
+            Ok(Side::Left) => self.left.length(drive),
+            Ok(Side::Right(there)) => self.right.length(there),
+            Err(_) => 0,
         }
     }
 
-    fn read_end(&self, drive: u8, sector: u64) -> Result<Source, Cause> {
-        match self.side(drive) {
-            Side::Left => self.left.read_end(drive, sector),
-            Side::Right(there) => {
-                self.right.read_end(there, sector)?;
-                Ok(Source::Cell { drive, sector })
+    fn read_end(&self, address: Address) -> Result<Source, Cause> {
+        match self.side(address.drive)? {
+            Side::Left => self.left.read_end(address),
+            Side::Right(drive) => {
+                self.right.read_end(Address { drive, ..address })?;
+                Ok(Source::Cell(address))
             }
-            Side::Neither => Err(Cause::NoDrive),
         }
     }
 
-    fn write_cause(&self, drive: u8, sector: u64) -> Option<Cause> {
-        match self.side(drive) {
-            Side::Left => self.left.write_cause(drive, sector),
-            Side::Right(there) => self.right.write_cause(there, sector),
-            Side::Neither => Some(Cause::NoDrive),
+    fn write_cause(&self, address: Address) -> Option<Cause> {
+        match self.side(address.drive) {
+            Ok(Side::Left) => self.left.write_cause(address),
+            Ok(Side::Right(drive)) => self.right.write_cause(Address { drive, ..address }),
+            Err(cause) => Some(cause),
         }
     }
 
-    fn read(&self, drive: u8, sector: u64, place: &mut [u8]) -> Result<Source, Cause> {
+    fn read(&self, address: Address, place: &mut [u8]) -> Result<Source, Cause> {
         if place.len() != SECTOR {
             return Err(Cause::WrongSize);
         }
-        match self.side(drive) {
-            Side::Left => self.left.read(drive, sector, place),
-            Side::Right(there) => {
+        match self.side(address.drive)? {
+            Side::Left => self.left.read(address, place),
+            Side::Right(drive) => {
                 // A plain bank names the sector's own cell, which has another number here.
-                self.right.read(there, sector, place)?;
-                Ok(Source::Cell { drive, sector })
+                self.right.read(Address { drive, ..address }, place)?;
+                Ok(Source::Cell(address))
             }
-            Side::Neither => Err(Cause::NoDrive),
         }
     }
 
-    fn write(&mut self, drive: u8, sector: u64, bytes: &[u8]) -> Result<(), Cause> {
+    fn write(&mut self, address: Address, bytes: &[u8]) -> Result<(), Cause> {
         if bytes.len() != SECTOR {
             return Err(Cause::WrongSize);
         }
-        match self.side(drive) {
-            Side::Left => self.write_left(drive, sector, bytes),
-            Side::Right(_) => self.write_right(drive, sector, bytes),
-            Side::Neither => Err(Cause::NoDrive),
+        match self.side(address.drive)? {
+            Side::Left => self.left.write(address, bytes),
+            Side::Right(drive) => self.right.write(Address { drive, ..address }, bytes),
         }
     }
 }

@@ -1,18 +1,9 @@
-use Rattle.bank.specs.Shapes.{beside}
-use Rattle.bank.proofs.Stores.{unsized_write, refused_write, neither_cause}
+use Rattle.bank.proofs.Stores.{right_write}
 use Rattle.pair.proofs.PairBank.write.Goals as goal
 
-pub returns-then-bytes-ne-SECTOR : goal.returns-then-bytes-ne-SECTOR
-returns-then-bytes-ne-SECTOR g c =
+pub returns-in-Right-clause-after : goal.returns-in-Right-clause-after
+returns-in-Right-clause-after g c =
     let l = g.L.Bank.meaning c.args.self.now.left in
     let r = g.R.Bank.meaning c.args.self.now.right in
-    let u = unsized_write (beside l r) c.args.drive c.args.sector c.args.bytes.now c.if-bytes-ne-SECTOR.true in
-    record { answer = u.0; after = u.1; kept = λ h. h }
-
-pub returns-in-Neither : goal.returns-in-Neither
-returns-in-Neither g c =
-    let l = g.L.Bank.meaning c.args.self.now.left in
-    let r = g.R.Bank.meaning c.args.self.now.right in
-    let none = neither_cause l r c.args.drive c.args.sector c.in-Neither.ensures in
-    let u = refused_write (beside l r) c.args.drive c.args.sector c.args.bytes.now 1 c.if-bytes-ne-SECTOR.false none in
-    record { answer = u.0; after = u.1; kept = λ h. h }
+    let placed = rw c.in-Right.is at c.in_ok-side.ensures in
+    right_write l r c.args.address.drive c.args.address.sector c.args.bytes.now c.if-bytes-ne-SECTOR.false placed.0 (g.R.Bank.meaning c.write-in-Right.new.self) placed.1 (rw placed.2 at c.write-in-Right.ensures.after)
