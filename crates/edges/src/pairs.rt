@@ -1,4 +1,5 @@
 // Pairs of 0 to 65 drives: which of them are shown, and whose they are.
+use super::at;
 use super::rack::Rack;
 use bank::{Bank, Cause, Source};
 use drives::{Memory, Rom};
@@ -10,9 +11,9 @@ fn no_drive(rt: HostRuntime) {
     let mut place = [0xAAu8; 512];
     assert_eq!(rt; none.count(), 0);
     assert_eq!(rt; none.length(0), 0);
-    assert_eq!(rt; none.read(0, 0, &mut place), Err(Cause::NoDrive));
-    assert_eq!(rt; none.write(0, 0, &place), Err(Cause::NoDrive));
-    assert_eq!(rt; none.write(0, 0, &place[0..1]), Err(Cause::WrongSize));
+    assert_eq!(rt; none.read(at(0, 0), &mut place), Err(Cause::NoDrive));
+    assert_eq!(rt; none.write(at(0, 0), &place), Err(Cause::NoDrive));
+    assert_eq!(rt; none.write(at(0, 0), &place[0..1]), Err(Cause::WrongSize));
 }
 
 #[test]
@@ -27,25 +28,13 @@ fn the_left_bank_comes_first(rt: HostRuntime) {
     assert_eq!(rt; pair.length(1), 2);
     assert_eq!(rt; pair.length(2), 5);
     assert_eq!(rt; pair.length(3), 0);
-    assert_eq!(rt; pair.write(1, 1, &data), Ok(()));
-    assert_eq!(rt; pair.write(2, 1, &data), Err(Cause::Unwritable));
-    assert_eq!(rt;
-        pair.read(1, 1, &mut place),
-        Ok(Source::Cell {
-            drive: 1,
-            sector: 1,
-        })
-    );
+    assert_eq!(rt; pair.write(at(1, 1), &data), Ok(()));
+    assert_eq!(rt; pair.write(at(2, 1), &data), Err(Cause::Unwritable));
+    assert_eq!(rt; pair.read(at(1, 1), &mut place), Ok(Source::Cell(at(1, 1))));
     assert_eq!(rt; place[511], 6);
-    assert_eq!(rt;
-        pair.read(2, 4, &mut place),
-        Ok(Source::Cell {
-            drive: 2,
-            sector: 4,
-        })
-    );
+    assert_eq!(rt; pair.read(at(2, 4), &mut place), Ok(Source::Cell(at(2, 4))));
     assert_eq!(rt; place[511], 4);
-    assert_eq!(rt; pair.read(3, 0, &mut place), Err(Cause::NoDrive));
+    assert_eq!(rt; pair.read(at(3, 0), &mut place), Err(Cause::NoDrive));
 }
 
 // How many drives a pair of racks shows.
@@ -70,16 +59,10 @@ fn at_most_64_drives_are_shown(rt: HostRuntime) {
 fn the_64th_drive_is_shown(rt: HostRuntime) {
     let all = Pair::new(Rack::new(40), Rack::new(24));
     assert_eq!(rt; all.length(63), 1);
-    assert_eq!(rt;
-        all.read_end(63, 0),
-        Ok(Source::Cell {
-            drive: 63,
-            sector: 0,
-        })
-    );
-    assert_eq!(rt; all.write_cause(63, 0), Some(Cause::Unwritable));
-    assert_eq!(rt; all.read_end(64, 0), Err(Cause::NoDrive));
-    assert_eq!(rt; all.read_end(255, u64::MAX), Err(Cause::NoDrive));
+    assert_eq!(rt; all.read_end(at(63, 0)), Ok(Source::Cell(at(63, 0))));
+    assert_eq!(rt; all.write_cause(at(63, 0)), Some(Cause::Unwritable));
+    assert_eq!(rt; all.read_end(at(64, 0)), Err(Cause::NoDrive));
+    assert_eq!(rt; all.read_end(at(255, u64::MAX)), Err(Cause::NoDrive));
 }
 
 #[test]
@@ -87,9 +70,9 @@ fn the_65th_drive_is_hidden(rt: HostRuntime) {
     let last = Pair::new(Rack::new(64), Rom::new(9));
     assert_eq!(rt; last.length(63), 1);
     assert_eq!(rt; last.length(64), 0);
-    assert_eq!(rt; last.write_cause(64, 0), Some(Cause::NoDrive));
+    assert_eq!(rt; last.write_cause(at(64, 0)), Some(Cause::NoDrive));
     let first = Pair::new(Rom::new(9), Rack::new(64));
     assert_eq!(rt; first.length(0), 9);
     assert_eq!(rt; first.length(63), 1);
-    assert_eq!(rt; first.read_end(64, 0), Err(Cause::NoDrive));
+    assert_eq!(rt; first.read_end(at(64, 0)), Err(Cause::NoDrive));
 }

@@ -3,7 +3,7 @@ ghost use Rattle.std.specs.Prelude.{◌≡◌, ◌≤◌};
 ghost use Rattle.edges.specs.Rack.{rack, rack_lawful};
 ghost use Rattle.std.proofs.Common.{rules};
 
-use bank::{Bank, Cause, Plain, SECTOR, Source};
+use bank::{Address, Bank, Cause, Plain, SECTOR, Source};
 
 #[derive(Clone, Copy)]
 pub struct Rack {
@@ -33,40 +33,36 @@ impl Bank for Rack {
         if drive < self.drives { 1 } else { 0 }
     }
 
-    fn read_end(&self, drive: u8, sector: u64) -> Result<Source, Cause> {
-        if drive >= self.drives {
+    fn read_end(&self, address: Address) -> Result<Source, Cause> {
+        if address.drive >= self.drives {
             return Err(Cause::NoDrive);
         }
-        if sector >= 1 {
+        if address.sector >= 1 {
             return Err(Cause::PastEnd);
         }
-        Ok(Source::Cell { drive, sector })
+        Ok(Source::Cell(address))
     }
 
-    fn write_cause(&self, drive: u8, sector: u64) -> Option<Cause> {
-        match self.read_end(drive, sector) {
-            Ok(_) => Some(Cause::Unwritable),
-            Err(cause) => Some(cause),
-        }
+    fn write_cause(&self, address: Address) -> Option<Cause> {
+        let missing = self.read_end(address).err();
+        Some(missing.unwrap_or(Cause::Unwritable))
     }
 
-    fn read(&self, drive: u8, sector: u64, place: &mut [u8]) -> Result<Source, Cause> {
+    fn read(&self, address: Address, place: &mut [u8]) -> Result<Source, Cause> {
         if place.len() != SECTOR {
             return Err(Cause::WrongSize);
         }
-        let source = self.read_end(drive, sector)?;
+        let source = self.read_end(address)?;
         place.fill(0);
         Ok(source)
     }
 
-    fn write(&mut self, drive: u8, sector: u64, bytes: &[u8]) -> Result<(), Cause> {
+    fn write(&mut self, address: Address, bytes: &[u8]) -> Result<(), Cause> {
         if bytes.len() != SECTOR {
             return Err(Cause::WrongSize);
         }
-        match self.read_end(drive, sector) {
-            Ok(_) => Err(Cause::Unwritable),
-            Err(cause) => Err(cause),
-        }
+        self.read_end(address)?;
+        Err(Cause::Unwritable)
     }
 }
 
