@@ -1,3 +1,4 @@
+pub mod Eights
 pub mod Places
 pub mod Slots
 pub mod Slotted

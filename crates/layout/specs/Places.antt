@@ -1,10 +1,11 @@
 -- What the places of a layout mean, and what a script's plan of a drive means.
-use Rattle.std.specs.Prelude.{◌*◌, List, [], ◌∷◌, replicate, vec_items}
+use Rattle.std.specs.Prelude.{◌*◌, List, map, replicate, vec_items}
 use Rattle.bank.specs.Meaning.{Meaning}
 use Rattle.bank.specs.Shapes.{one_drive, no_drives}
 use Rattle.drives.specs.Disks as disks
 use Rattle.script.specs.Drives.{Plan, memory, rom}
 use Rattle.layout.specs.declared.layout.Layout.{Layout}
+use Rattle.layout.specs.Eights.{in_order}
 use Rattle.layout.specs.declared.place.Place.{Place}
 use Rattle.layout.specs.declared.place.Place.TheVariants.{Empty, Memory, Rom}
 
@@ -20,4 +21,4 @@ plan_means (rom sectors) = one_drive (disks.rom sectors)
 
 -- the eight places of a layout, in their order
 abbrev pub all_mean : Layout → List Meaning
-all_mean l = place_means l.a ∷ place_means l.b ∷ place_means l.c ∷ place_means l.d ∷ place_means l.e ∷ place_means l.f ∷ place_means l.g ∷ place_means l.h ∷ []
+all_mean l = map place_means (in_order l.places)

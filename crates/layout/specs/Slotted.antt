@@ -1,12 +1,14 @@
 -- What eight slots mean, in their order, and that all of them stand.
-use Rattle.std.specs.Prelude.{List, [], ◌∷◌}
+use Rattle.std.specs.Prelude.{List, map}
+use Rattle.std.specs.List.{AllByRecursion}
 use Rattle.bank.specs.Meaning.{Meaning}
-use Rattle.layout.specs.declared.layout.Eight.{Eight}
+use Rattle.layout.specs.declared.eight.Eight.{Eight}
 use Rattle.layout.specs.declared.slot.Slot.{Slot}
+use Rattle.layout.specs.Eights.{in_order}
 use Rattle.layout.specs.Slots.{slot_means, SlotStands}
 
 abbrev pub slots_mean : Eight Slot → List Meaning
-slots_mean s = slot_means s.a ∷ slot_means s.b ∷ slot_means s.c ∷ slot_means s.d ∷ slot_means s.e ∷ slot_means s.f ∷ slot_means s.g ∷ slot_means s.h ∷ []
+slots_mean slots = map slot_means (in_order slots)
 
 abbrev pub SlotsStand : Eight Slot → Type 0
-SlotsStand s = SlotStands s.a × SlotStands s.b × SlotStands s.c × SlotStands s.d × SlotStands s.e × SlotStands s.f × SlotStands s.g × SlotStands s.h
+SlotsStand slots = AllByRecursion SlotStands (in_order slots)

@@ -5,36 +5,18 @@ ghost use Rattle.layout.specs.Places.{all_mean, plan_means};
 ghost use Rattle.layout.specs.Slotted.{slots_mean, SlotsStand};
 ghost use Rattle.script.specs.Drives.{told_drive};
 
+use super::eight::Eight;
 use super::place::Place;
 use super::slot::Slot;
 use lines::Fault;
 use script::Drive;
 use std::alloc::Global;
 
-// Eight of a kind, in their order.
-#[derive(Drop)]
-pub struct Eight<T> {
-    pub a: T,
-    pub b: T,
-    pub c: T,
-    pub d: T,
-    pub e: T,
-    pub f: T,
-    pub g: T,
-    pub h: T,
-}
-
 #[derive(Drop)]
 pub struct Layout {
+    // How many places are taken, from the first on: the places themselves are all there from the start.
     count: u8,
-    a: Place,
-    b: Place,
-    c: Place,
-    d: Place,
-    e: Place,
-    f: Place,
-    g: Place,
-    h: Place,
+    places: Eight<Place>,
 }
 
 impl Layout {
@@ -44,14 +26,16 @@ impl Layout {
     {
         Layout {
             count: 0,
-            a: Place::Empty,
-            b: Place::Empty,
-            c: Place::Empty,
-            d: Place::Empty,
-            e: Place::Empty,
-            f: Place::Empty,
-            g: Place::Empty,
-            h: Place::Empty,
+            places: Eight {
+                a: Place::Empty,
+                b: Place::Empty,
+                c: Place::Empty,
+                d: Place::Empty,
+                e: Place::Empty,
+                f: Place::Empty,
+                g: Place::Empty,
+                h: Place::Empty,
+            },
         }
     }
 
@@ -65,16 +49,7 @@ impl Layout {
             return Err(Fault::NinthDrive);
         }
         let place = Place::new(heap, drive)?;
-        match number {
-            0 => self.a = place,
-            1 => self.b = place,
-            2 => self.c = place,
-            3 => self.d = place,
-            4 => self.e = place,
-            5 => self.f = place,
-            6 => self.g = place,
-            _ => self.h = place,
-        }
+        self.places.put(number, place);
         self.count = number + 1;
         Ok(number)
     }
@@ -83,15 +58,16 @@ impl Layout {
         ensures means { slots_mean result ≡ all_mean self.old }
         ensures stand { SlotsStand result }
     {
+        let places = &mut self.places;
         Eight {
-            a: self.a.slot(),
-            b: self.b.slot(),
-            c: self.c.slot(),
-            d: self.d.slot(),
-            e: self.e.slot(),
-            f: self.f.slot(),
-            g: self.g.slot(),
-            h: self.h.slot(),
+            a: places.a.slot(),
+            b: places.b.slot(),
+            c: places.c.slot(),
+            d: places.d.slot(),
+            e: places.e.slot(),
+            f: places.f.slot(),
+            g: places.g.slot(),
+            h: places.h.slot(),
         }
     }
 }

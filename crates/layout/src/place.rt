@@ -39,9 +39,7 @@ impl Place {
                 unreadable,
                 unwritable,
             } => {
-                let Some(size) = sectors.checked_mul(SECTOR) else {
-                    return Err(Fault::NoMemory);
-                };
+                let size = sectors.checked_mul(SECTOR).ok_or(Fault::NoMemory)?;
                 let bytes = vec![in heap; 0u8; size as usize]?;
                 Ok(Place::Memory(Store {
                     bytes,

@@ -3,7 +3,7 @@ ghost use Rattle.std.specs.Prelude.{◌≡◌, if◌then◌else◌, nat_eq};
 ghost use Rattle.bank.specs.Told.{number_of};
 ghost use Rattle.layout.specs.Slots.{slot_means, SlotStands, slot_lawful, slot_plain};
 
-use bank::{Bank, Cause, Plain, SECTOR, Source};
+use bank::{Address, Bank, Cause, Plain, SECTOR, Source};
 use drives::{Memory, Rom};
 
 #[derive(Drop)]
@@ -36,34 +36,34 @@ impl Bank for Slot<'_> {
         }
     }
 
-    fn read_end(&self, drive: u8, sector: u64) -> Result<Source, Cause> {
+    fn read_end(&self, address: Address) -> Result<Source, Cause> {
         match self {
-            Slot::Memory(there) => there.read_end(drive, sector),
-            Slot::Rom(there) => there.read_end(drive, sector),
+            Slot::Memory(there) => there.read_end(address),
+            Slot::Rom(there) => there.read_end(address),
             Slot::Nothing => Err(Cause::NoDrive),
         }
     }
 
-    fn write_cause(&self, drive: u8, sector: u64) -> Option<Cause> {
+    fn write_cause(&self, address: Address) -> Option<Cause> {
         match self {
-            Slot::Memory(there) => there.write_cause(drive, sector),
-            Slot::Rom(there) => there.write_cause(drive, sector),
+            Slot::Memory(there) => there.write_cause(address),
+            Slot::Rom(there) => there.write_cause(address),
             Slot::Nothing => Some(Cause::NoDrive),
         }
     }
 
-    fn read(&self, drive: u8, sector: u64, place: &mut [u8]) -> Result<Source, Cause> {
+    fn read(&self, address: Address, place: &mut [u8]) -> Result<Source, Cause> {
         match self {
-            Slot::Memory(there) => there.read(drive, sector, place),
-            Slot::Rom(there) => there.read(drive, sector, place),
+            Slot::Memory(there) => there.read(address, place),
+            Slot::Rom(there) => there.read(address, place),
             Slot::Nothing => Err(absent(place.len())),
         }
     }
 
-    fn write(&mut self, drive: u8, sector: u64, bytes: &[u8]) -> Result<(), Cause> {
+    fn write(&mut self, address: Address, bytes: &[u8]) -> Result<(), Cause> {
         match self {
-            Slot::Memory(there) => there.write(drive, sector, bytes),
-            Slot::Rom(there) => there.write(drive, sector, bytes),
+            Slot::Memory(there) => there.write(address, bytes),
+            Slot::Rom(there) => there.write(address, bytes),
             Slot::Nothing => Err(absent(bytes.len())),
         }
     }
