@@ -1,13 +1,10 @@
 -- One drive, no drive and two banks side by side are lawful and plain.
 use Rattle.std.proofs.Common.{◌≡◌, ℕ, ◌-◌, ◌^◌, ◌<◌, ◌≤◌, Bool, true, false, cond, ◌&&◌, eqb, ltb, leb, ◌⊎◌, [], ◌∷◌, map, Some, None, Option, refl, ap, ◌∙◌, inl, inr, ⊎_elim, arith}
 use Rattle.std.proofs.lemmas.Bool.{lt-ltb, le-ltb, le-leb, lt-leb, eq-eqb, ne_eqb, eqb-true, cond_both, cases_lt, cases_Bool, cond-true, cond-false, and_parts, and_from, ltb-true, leb-false}
-use Rattle.std.proofs.lemmas.List.{length-replicate, get_or-replicate}
 use Rattle.bank.specs.Due.{first_due}
 use Rattle.bank.specs.Meaning.{at, ReadEnd, cell, zeros, unread, WriteEnd, cells, unwritten, Meaning, Lawful, Plainly, Sector, Own, refusal, cause_of, cells_of}
-use Rattle.bank.specs.Shapes.{Disk, read_causes, write_causes, own_read, own_write, blank, one_drive, no_drives, moved, moved_read, moved_write, both_drives, by_side, beside}
-
-pub blank_sector : Sector blank
-blank_sector = record { long = length-replicate {A = ℕ} 512 0; small = λ k h. rw (get_or-replicate {A = ℕ} 512 k 0 0 h) (omega arith) }
+use Rattle.bank.specs.Absent.{blank_sector, not_below_zero}
+use Rattle.bank.specs.Shapes.{Disk, read_causes, write_causes, own_read, own_write, blank, one_drive, moved, moved_read, moved_write, both_drives, by_side, beside}
 
 own_read_either : (d s : ℕ) (o : Option ℕ) → (own_read d s o ≡ cell (at d s)) ⊎ ((n : ℕ) × (own_read d s o ≡ unread n))
 own_read_either d s None = inl refl
@@ -28,9 +25,6 @@ own_cause : (n d s : ℕ) (b : Bool) → 3 ≤ n → n ≤ 7 → Own (refusal (o
 own_cause n d s true h l = ((h, l), (h, l))
 own_cause n d s false h l = (tt, tt)
 
-not_below_zero : {s : ℕ} → s < 0 → ⊥
-not_below_zero h = omega arith
-
 within_one : (k : Disk) (d s : ℕ) → s < (one_drive k).size d → (d ≡ 0) × (s < k.sectors)
 within_one k d s h =
     ⊎_elim (λ (e : eqb d 0 ≡ true). (eqb-true d 0 e, rw (cond-true (eqb d 0) k.sectors 0 e) at h)) (λ (e : eqb d 0 ≡ false). absurd (not_below_zero (rw (cond-false (eqb d 0) k.sectors 0 e) at h))) (cases_Bool (eqb d 0))
@@ -45,20 +39,6 @@ one_drive_lawful k short sound = record {
   inside = λ d s h. let w = within_one k d s h in let low : d < 1 = omega (arith, w.0) in rw (lt-leb 1 d low, lt-leb k.sectors s w.1) ((own_cause 3 d s (k.unreadable s) (omega arith) (omega arith)).0, (own_cause 4 d s (k.unwritable s) (omega arith) (omega arith)).1);
   full = λ c. cond_both (eqb c.drive 0 && ltb c.sector k.sectors) (k.bytes c.sector) blank Sector (λ e. sound c.sector (ltb-true _ _ (and_parts _ _ e).1)) (λ e. blank_sector);
 }
-
-pub no_drives_lawful : Lawful no_drives
-no_drives_lawful = record {
-  few = omega arith;
-  short = λ d. omega arith;
-  none = λ d h. refl;
-  no_drive = λ d s h. (refl, refl);
-  past_end = λ d s h l. absurd (not_below_zero h);
-  inside = λ d s h. absurd (not_below_zero h);
-  full = λ c. blank_sector;
-}
-
-pub no_drives_plain : Plainly no_drives
-no_drives_plain = record { reads_own = λ d s. inr (1, refl); writes_own = λ d s. inr (1, refl) }
 
 -- Two banks side by side. A drive is the left bank's, the right bank's or neither's.
 data Side (l r : Meaning) (d : ℕ) : Type 0 where

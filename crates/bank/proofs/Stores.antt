@@ -2,12 +2,12 @@
 use Rattle.std.proofs.Common.{◌≡◌, ℕ, ◌+◌, ◌-◌, ◌<◌, ◌≤◌, min, true, cond, ◌&&◌, eqb, ltb, List, [], ◌∷◌, map, length, Some, sym, refl, ap, ◌∙◌, ⊎_elim, arith}
 use mathlib.Core.List.Memᴰ
 use mathlib.Core.List.{Memᴰ}
-use Rattle.std.proofs.lemmas.Bool.{lt-ltb, le-ltb, eq-eqb, ne_eqb, eqb-true, cases_eq, cases_lt, cases_Bool, cond-true, cond-false, and_parts, and_from, ltb-true}
+use Rattle.std.proofs.lemmas.Bool.{lt-ltb, le-ltb, eq-eqb, eqb-true, cases_lt, cases_Bool, cond-true, cond-false, and_parts, and_from, ltb-true}
 use Rattle.bank.specs.Due.{first_due}
 use Rattle.bank.specs.Meaning.{Cell, at, WriteEnd, cells, unwritten, cause_of, cells_of, write_due, Meaning, Stored}
-use Rattle.bank.proofs.Dues.{write_sized, write_unsized}
+use Rattle.bank.proofs.Dues.{write_sized}
 use Rattle.bank.proofs.Shapes.{side_right, moved_write_cells}
-use Rattle.bank.specs.Shapes.{Disk, blank, one_drive, no_drives, moved, moved_write, both_drives, beside, own_read, own_write, read_causes, write_causes}
+use Rattle.bank.specs.Shapes.{Disk, blank, one_drive, moved, moved_write, both_drives, beside, own_read, own_write, read_causes, write_causes}
 
 -- a write that reaches no cell, of whatever bytes
 pub nothing_stored : (m : Meaning) (bs : List ℕ) → Stored m m [] bs
@@ -102,12 +102,9 @@ pub refused_stored : (m : Meaning) (e : WriteEnd) (n : ℕ) (bs : List ℕ) → 
 refused_stored m (cells cs) n bs h = let z : ◌≡◌ {A = ℕ} 0 1 = cc in absurd (omega arith)
 refused_stored m (unwritten c) n bs h = nothing_stored m bs
 
--- What a write promises where it answers a cause and leaves the bank as it is.
-pub refused_write : (m : Meaning) (d s : ℕ) (bs : List ℕ) (n : ℕ) → length bs ≡ 512 → Some n ≡ cause_of (m.writes d s) → (Some n ≡ cause_of (write_due m d s (length bs))) × Stored m m (cells_of (write_due m d s (length bs))) bs
-refused_write m d s bs n full e = rw (write_sized m d s (length bs) full) (e, refused_stored m (m.writes d s) n bs e)
-
-pub unsized_write : (m : Meaning) (d s : ℕ) (bs : List ℕ) → (length bs ≡ 512 → ⊥) → (Some 8 ≡ cause_of (write_due m d s (length bs))) × Stored m m (cells_of (write_due m d s (length bs))) bs
-unsized_write m d s bs odd = rw (write_unsized m d s (length bs) odd) (refl, nothing_stored m bs)
+-- What a write leaves that met a cause with data of the right size.
+pub refused_write : (m : Meaning) (d s : ℕ) (bs : List ℕ) (n : ℕ) → length bs ≡ 512 → Some n ≡ cause_of (m.writes d s) → Stored m m (cells_of (write_due m d s (length bs))) bs
+refused_write m d s bs n full e = rw (write_sized m d s (length bs) full) (refused_stored m (m.writes d s) n bs e)
 
 -- A write through two banks side by side to a drive of the right one is the same write of that bank.
 module _ (l r : Meaning) (d s : ℕ) (bs : List ℕ) (full : length bs ≡ 512) (shown : d < both_drives l r) where
@@ -117,11 +114,3 @@ module _ (l r : Meaning) (d s : ℕ) (bs : List ℕ) (full : length bs ≡ 512) 
 
   pub right_write : (r' : Meaning) → l.drives ≤ d → Stored r r' (cells_of (write_due r (d - l.drives) s (length bs))) bs → Stored (beside l r) (beside l r') (cells_of (write_due (beside l r) d s (length bs))) bs
   right_write r' h w = rw (right_due h, moved_write_cells) (right_stored l r r' _ bs w)
-
--- a write to a bank of no drive
-pub absent_write : (m : Meaning) (d s : ℕ) (bs : List ℕ) (n : ℕ) → m ≡ no_drives → n ≡ cond (eqb (length bs) 512) 1 8 → (Some n ≡ cause_of (write_due m d s (length bs))) × Stored m m (cells_of (write_due m d s (length bs))) bs
-absent_write m d s bs n none e =
-    ⊎_elim
-    (λ (full : length bs ≡ 512). refused_write m d s bs n full (ap Some (e ∙ cond-true _ 1 8 (eq-eqb _ 512 full)) ∙ sym (ap (λ x. cause_of (x.writes d s)) none)))
-    (λ (odd : length bs ≡ 512 → ⊥). rw (e ∙ cond-false _ 1 8 (ne_eqb _ 512 odd)) (unsized_write m d s bs odd))
-    (cases_eq (length bs) 512)

@@ -1,3 +1,4 @@
+pub mod Absent
 pub mod Due
 pub mod Meaning
 pub mod Shapes

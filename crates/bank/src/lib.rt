@@ -2,6 +2,7 @@
 // A bank's meaning is in specs/Meaning.antt; the methods here answer from it.
 #![tactic(auto)]
 
+mod absent;
 mod address;
 mod cause;
 mod source;

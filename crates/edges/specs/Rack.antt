@@ -5,7 +5,7 @@ use Rattle.std.proofs.lemmas.Bool.{le-leb, lt-leb, le-ltb, lt-ltb, cases_lt, con
 use Rattle.bank.specs.Due.{first_due}
 use Rattle.bank.specs.Meaning.{Meaning, Lawful}
 use Rattle.bank.specs.Shapes.{own_read, own_write, blank}
-use Rattle.bank.proofs.Shapes.{blank_sector}
+use Rattle.bank.specs.Absent.{blank_sector}
 
 abbrev pub rack : ℕ → Meaning
 rack n = record {

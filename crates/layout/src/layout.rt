@@ -1,7 +1,9 @@
 // The drives of one script: up to eight, in the order in which it describes them.
 ghost use Rattle.std.specs.Prelude.{◌≡◌, ◌+◌, replicate, IfOk, MatchResult, slice_set};
+ghost use Rattle.bank.specs.Absent.{maybe_means, MaybeStands};
 ghost use Rattle.bank.specs.Shapes.{no_drives};
-ghost use Rattle.layout.specs.Places.{all_mean, plan_means};
+ghost use Rattle.layout.specs.Places.{all_mean, place_means, plan_means};
+ghost use Rattle.layout.specs.Slots.{slot_means, SlotStands};
 ghost use Rattle.layout.specs.Slotted.{slots_mean, SlotsStand};
 ghost use Rattle.script.specs.Drives.{told_drive};
 
@@ -16,7 +18,7 @@ use std::alloc::Global;
 pub struct Layout {
     // How many places are taken, from the first on: the places themselves are all there from the start.
     count: u8,
-    places: Eight<Place>,
+    places: Eight<Option<Place>>,
 }
 
 impl Layout {
@@ -27,14 +29,14 @@ impl Layout {
         Layout {
             count: 0,
             places: Eight {
-                a: Place::Empty,
-                b: Place::Empty,
-                c: Place::Empty,
-                d: Place::Empty,
-                e: Place::Empty,
-                f: Place::Empty,
-                g: Place::Empty,
-                h: Place::Empty,
+                a: None,
+                b: None,
+                c: None,
+                d: None,
+                e: None,
+                f: None,
+                g: None,
+                h: None,
             },
         }
     }
@@ -49,25 +51,33 @@ impl Layout {
             return Err(Fault::NinthDrive);
         }
         let place = Place::new(heap, drive)?;
-        self.places.put(number, place);
+        self.places.put(number, Some(place));
         self.count = number + 1;
         Ok(number)
     }
 
-    pub fn slots(&mut self) -> Eight<Slot<'_>>
+    pub fn slots(&mut self) -> Eight<Option<Slot<'_>>>
         ensures means { slots_mean result ≡ all_mean self.old }
         ensures stand { SlotsStand result }
     {
         let places = &mut self.places;
         Eight {
-            a: places.a.slot(),
-            b: places.b.slot(),
-            c: places.c.slot(),
-            d: places.d.slot(),
-            e: places.e.slot(),
-            f: places.f.slot(),
-            g: places.g.slot(),
-            h: places.h.slot(),
+            a: slot_of(&mut places.a),
+            b: slot_of(&mut places.b),
+            c: slot_of(&mut places.c),
+            d: slot_of(&mut places.d),
+            e: slot_of(&mut places.e),
+            f: slot_of(&mut places.f),
+            g: slot_of(&mut places.g),
+            h: slot_of(&mut places.h),
         }
     }
+}
+
+// The slot of a place that is taken.
+fn slot_of(place: &mut Option<Place>) -> Option<Slot<'_>>
+    ensures means { maybe_means slot_means result ≡ maybe_means place_means place.old }
+    ensures stands { MaybeStands SlotStands result }
+{
+    place.as_mut().map(Place::slot)
 }

@@ -5,12 +5,11 @@ ghost use Rattle.layout.specs.Slots.{slot_means, SlotStands};
 ghost use Rattle.script.specs.Drives.{told_drive};
 
 use super::slot::Slot;
+use bank::SECTOR;
 use drives::{Memory, Rom};
 use lines::Fault;
 use script::Drive;
 use std::alloc::Global;
-
-const SECTOR: u64 = 512;
 
 // What a memory drive works over.
 #[derive(Drop)]
@@ -22,7 +21,6 @@ pub struct Store {
 
 #[derive(Drop)]
 pub enum Place {
-    Empty,
     Memory(Store),
     Rom { sectors: u64 },
 }
@@ -39,7 +37,7 @@ impl Place {
                 unreadable,
                 unwritable,
             } => {
-                let size = sectors.checked_mul(SECTOR).ok_or(Fault::NoMemory)?;
+                let size = sectors.checked_mul(SECTOR as u64).ok_or(Fault::NoMemory)?;
                 let bytes = vec![in heap; 0u8; size as usize]?;
                 Ok(Place::Memory(Store {
                     bytes,
@@ -55,7 +53,6 @@ impl Place {
         ensures stands { SlotStands result }
     {
         match self {
-            Place::Empty => Slot::Nothing,
             Place::Memory(store) => Slot::Memory(store.lend()),
             Place::Rom { sectors } => Slot::Rom(Rom::new(*sectors)),
         }

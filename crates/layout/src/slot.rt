@@ -1,16 +1,14 @@
-// A place for a drive that a script chooses: a memory drive, a ROM drive or nothing. It is a plain bank of one drive or none.
-ghost use Rattle.std.specs.Prelude.{◌≡◌, if◌then◌else◌, nat_eq};
-ghost use Rattle.bank.specs.Told.{number_of};
+// The drive that a script chooses for a place: a memory drive or a ROM drive. It is a plain bank of one drive.
 ghost use Rattle.layout.specs.Slots.{slot_means, SlotStands, slot_lawful, slot_plain};
 
-use bank::{Address, Bank, Cause, Plain, SECTOR, Source};
+use bank::{Address, Bank, Cause, Plain, Source};
 use drives::{Memory, Rom};
 
+// An enum, and no `dyn Plain`: a boxed drive would have to be made here and handed out.
 #[derive(Drop)]
 pub enum Slot<'a> {
     Memory(Memory<'a>),
     Rom(Rom),
-    Nothing,
 }
 
 impl Bank for Slot<'_> {
@@ -24,7 +22,6 @@ impl Bank for Slot<'_> {
         match self {
             Slot::Memory(there) => there.count(),
             Slot::Rom(there) => there.count(),
-            Slot::Nothing => 0,
         }
     }
 
@@ -32,7 +29,6 @@ impl Bank for Slot<'_> {
         match self {
             Slot::Memory(there) => there.length(drive),
             Slot::Rom(there) => there.length(drive),
-            Slot::Nothing => 0,
         }
     }
 
@@ -40,7 +36,6 @@ impl Bank for Slot<'_> {
         match self {
             Slot::Memory(there) => there.read_end(address),
             Slot::Rom(there) => there.read_end(address),
-            Slot::Nothing => Err(Cause::NoDrive),
         }
     }
 
@@ -48,7 +43,6 @@ impl Bank for Slot<'_> {
         match self {
             Slot::Memory(there) => there.write_cause(address),
             Slot::Rom(there) => there.write_cause(address),
-            Slot::Nothing => Some(Cause::NoDrive),
         }
     }
 
@@ -56,7 +50,6 @@ impl Bank for Slot<'_> {
         match self {
             Slot::Memory(there) => there.read(address, place),
             Slot::Rom(there) => there.read(address, place),
-            Slot::Nothing => Err(absent(place.len())),
         }
     }
 
@@ -64,22 +57,10 @@ impl Bank for Slot<'_> {
         match self {
             Slot::Memory(there) => there.write(address, bytes),
             Slot::Rom(there) => there.write(address, bytes),
-            Slot::Nothing => Err(absent(bytes.len())),
         }
     }
 }
 
 impl Plain for Slot<'_> {
     ghost plainly = { slot_plain };
-}
-
-// The cause of a drive that is absent, at a place or data of that many bytes.
-fn absent(size: usize) -> Cause
-    ensures { number_of result ≡ (if nat_eq size 512 then 1 else 8) }
-{
-    if size == SECTOR {
-        Cause::NoDrive
-    } else {
-        Cause::WrongSize
-    }
 }
