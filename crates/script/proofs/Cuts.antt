@@ -1,8 +1,10 @@
 -- The words of a text, and the search for an empty one.
-use Rattle.std.proofs.Common.{◌≡◌, ℕ, suc, ◌+◌, ◌<◌, Bool, true, false, ◌||◌, eqb, List, [], ◌∷◌, length, get_or, drop, sym, ap, ◌∙◌, arith, Bor}
+use Rattle.std.proofs.Common.{refl, ◌≡◌, ℕ, suc, ◌<◌, ◌||◌, List, [], ◌∷◌, length, get_or, sym, arith, Bor}
 use Rattle.std.specs.Str.Iter.{LacksByte}
-use Rattle.std.specs.List.{join_with_byte, AllByRecursion}
-use Rattle.std.proofs.lemmas.List.{length-map, at_drop_more}
+use Rattle.std.specs.Prelude.{◌==◌}
+use Rattle.std.specs.List.{list_any, join_with_byte, AllByRecursion}
+use Rattle.std.proofs.lemmas.List.{length-map}
+use Rattle.std.proofs.lemmas.List.Recursion.{same_from_clauses}
 use Rattle.lines.specs.Texts.{texts}
 use Rattle.script.specs.Cuts.{Cut, hollow}
 
@@ -14,13 +16,6 @@ cut_by text refs whole apart some = record { whole = sym whole; apart = each ref
     each [] h = tt
     each (r ∷ rs) h = (h 0 r (omega arith), each rs (λ k d l. h (suc k) d (omega arith)))
 
--- one word on in the search for an empty one
-module _ (refs : List (Bor (List ℕ))) (i : ℕ) (d : Bor (List ℕ)) (inside : i < length refs) where
-  hollow_more : hollow (texts (drop i refs)) ≡ (eqb (length (get_or refs i d).now) 0 || hollow (texts (drop (i + 1) refs)))
-  hollow_more = at_drop_more (λ rs. hollow (texts rs)) refs i d inside
-
-  pub not_here : (h : Bool) → eqb (length (get_or refs i d).now) 0 ≡ false → hollow (texts (drop i refs)) ≡ h → hollow (texts (drop (i + 1) refs)) ≡ h
-  not_here h e inv = sym (hollow_more ∙ ap (λ b. b || hollow (texts (drop (i + 1) refs))) e) ∙ inv
-
-  pub here : (h : Bool) → eqb (length (get_or refs i d).now) 0 ≡ true → hollow (texts (drop i refs)) ≡ h → h ≡ true
-  here h e inv = sym inv ∙ hollow_more ∙ ap (λ b. b || hollow (texts (drop (i + 1) refs))) e
+-- the test of each word of a line, as it is made of the words that a slice holds
+pub hollow_any : (refs : List (Bor (List ℕ))) → list_any (λ r. length r.now == 0) refs ≡ hollow (texts refs)
+hollow_any = same_from_clauses (λ rs. list_any (λ r. length r.now == 0) rs) (λ rs. hollow (texts rs)) (λ r h. length r.now == 0 || h) refl (λ _ _. refl) (λ _ _. refl)

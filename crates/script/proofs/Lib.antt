@@ -1,4 +1,3 @@
-mod Commands
 mod Cuts
 mod Drives
 mod Places

@@ -6,8 +6,8 @@ use Rattle.script.specs.declared.command.BankCommand.{BankCommand}
 use Rattle.script.specs.declared.command.BankCommand.TheVariants.{Count, Length, Ends, Get, Put}
 use Rattle.lines.specs.declared.fault.Fault.{Fault}
 use Rattle.lines.specs.declared.fault.Fault.TheVariants.{MissingWord, UnknownCommand, NotBank}
-use Rattle.lines.specs.declared.fault.Part.TheVariants.{Command, Bank, Sector, Seed}
-use Rattle.script.specs.Words.{then, number_at, drive_at, end_at, size_at}
+use Rattle.lines.specs.declared.fault.Part.TheVariants.{Command, Bank, Seed}
+use Rattle.script.specs.Words.{then, number_at, drive_at, address_at, end_at, size_at}
 
 -- the bank's own word, 8
 abbrev pub bank_by : Option (List ℕ) → Result (Unit {0}) Fault
@@ -27,15 +27,15 @@ length_said words = then (drive_at words 1) (λ drive. then (end_at words 2) (λ
 
 -- ends 8:N SECTOR
 abbrev pub ends_said : List (List ℕ) → Result BankCommand Fault
-ends_said words = then (drive_at words 1) (λ drive. then (number_at words 2 Sector) (λ sector. then (end_at words 3) (λ _. Ok (Ends (record { drive = drive; sector = sector })))))
+ends_said words = then (address_at words 1) (λ address. then (end_at words 3) (λ _. Ok (Ends address)))
 
 -- get 8:N SECTOR [bytes N]
 abbrev pub get_said : List (List ℕ) → Result BankCommand Fault
-get_said words = then (drive_at words 1) (λ drive. then (number_at words 2 Sector) (λ sector. then (size_at words 3) (λ size. Ok (Get (record { drive = drive; sector = sector }) size))))
+get_said words = then (address_at words 1) (λ address. then (size_at words 3) (λ size. Ok (Get address size)))
 
 -- put 8:N SECTOR SEED [bytes N]
 abbrev pub put_said : List (List ℕ) → Result BankCommand Fault
-put_said words = then (drive_at words 1) (λ drive. then (number_at words 2 Sector) (λ sector. then (number_at words 3 Seed) (λ seed. then (size_at words 4) (λ size. Ok (Put (record { drive = drive; sector = sector }) seed size)))))
+put_said words = then (address_at words 1) (λ address. then (number_at words 3 Seed) (λ seed. then (size_at words 4) (λ size. Ok (Put address seed size))))
 
 -- A command is known by its first word.
 abbrev pub named : List (List ℕ) → List ℕ → Result BankCommand Fault

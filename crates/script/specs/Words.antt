@@ -3,12 +3,18 @@ use Rattle.std.specs.Prelude.{ℕ, ◌+◌, ◌^◌, cond, List, Some, None, Ok,
 use Rattle.std.specs.List.{slice_get}
 use Rattle.std.specs.Option.{ok_or}
 use Rattle.std.specs.Str.{bytes_eq}
+use Rattle.bank.specs.declared.address.Address.{Address}
 use Rattle.lines.specs.declared.fault.Fault.{Fault}
 use Rattle.lines.specs.declared.fault.Fault.TheVariants.{MissingWord, ExtraWord, NotNumber, NotDrive, TooLarge}
 use Rattle.lines.specs.declared.fault.Part.{Part}
-use Rattle.lines.specs.declared.fault.Part.TheVariants.{Drive, Bytes}
+use Rattle.lines.specs.declared.fault.Part.TheVariants.{Drive, Sector, Bytes}
 use Rattle.lines.specs.Number.{number_in}
-use Rattle.lines.specs.Texts.{behind}
+use Rattle.lines.specs.Texts.{behind, texts}
+use Rattle.script.specs.declared.words.Words.{Words}
+
+-- the words of a line that are not read yet
+abbrev pub unread : Words → List (List ℕ)
+unread words = texts words.left.now
 
 -- One step after another: the first fault ends the line.
 abbrev pub then : {X Y : Type 0} → Result X Fault → (X → Result Y Fault) → Result Y Fault
@@ -46,6 +52,10 @@ drive_in word = number_behind (behind (codes "8:") word)
 
 abbrev pub drive_at : List (List ℕ) → ℕ → Result ℕ Fault
 drive_at words at = reading Drive NotDrive drive_in (slice_get words at)
+
+-- the sector that 8:N SECTOR names
+abbrev pub address_at : List (List ℕ) → ℕ → Result Address Fault
+address_at words at = then (drive_at words at) (λ drive. then (number_at words (at + 1) Sector) (λ sector. Ok (record { drive = drive; sector = sector })))
 
 abbrev pub bounded : ℕ → Part → ℕ → Result ℕ Fault
 bounded n part most = cond (nat_le n most) (Ok n) (Err (TooLarge part most))

@@ -1,13 +1,13 @@
 // The commands of a script, parsed from the words of a line.
-ghost use Rattle.std.specs.Prelude.{◌≡◌};
-ghost use Rattle.lines.specs.Texts.{texts};
-ghost use Rattle.script.specs.Commands.{bank_at, count_said, length_said, ends_said, get_said, put_said, bank_said};
+ghost use Rattle.std.specs.Prelude.{◌≡◌, ℕ, List, ◌∷◌};
+ghost use Rattle.script.specs.Words.{unread};
+ghost use Rattle.script.specs.Commands.{count_said, length_said, ends_said, get_said, put_said, bank_said};
 ghost use Rattle.script.specs.Drives.{Read};
 ghost use Rattle.script.specs.Parsed.{told_command, command_said, Parsed};
 
 use super::cut::{all_solid, split};
 use super::drive::Drive;
-use super::words::{drive_at, end_at, number_at, size_at, word_at};
+use super::words::Words;
 use bank::Address;
 use lines::{Fault, Part};
 use std::alloc::Global;
@@ -44,94 +44,75 @@ impl Command {
     {
         let words = split(heap, text)?;
         all_solid(&words)?;
-        Command::of_words(heap, &words)
+        Command::of_words(heap, Words { left: &words })
     }
 
-    fn of_words(heap: Global, words: &[&str]) -> Result<Command, Fault>
-        ensures { Read told_command (command_said (texts words.now)) result }
+    fn of_words(heap: Global, mut words: Words) -> Result<Command, Fault>
+        ensures { Read told_command (command_said (unread words.entry)) result }
     {
-        let Some(name) = word_at(words, 0) else {
-            return Err(Fault::MissingWord(Part::Command));
-        };
-        match name {
+        match words.word(Part::Command)? {
             "memory" => Ok(Command::Drive(Drive::memory(heap, words)?)),
             "rom" => Ok(Command::Drive(Drive::rom(words)?)),
-            _ => Ok(Command::Bank(BankCommand::parse(words)?)),
+            name => Ok(Command::Bank(BankCommand::parse(name, words)?)),
         }
     }
 }
 
 impl BankCommand {
-    fn parse(words: &[&str]) -> Result<BankCommand, Fault>
-        ensures { result ≡ bank_said (texts words.now) }
+    // A command is known by its name, and the words behind it.
+    fn parse(name: &str, words: Words) -> Result<BankCommand, Fault>
+        ensures { result ≡ bank_said (name.now ∷ unread words.entry) }
     {
-        match word_at(words, 0) {
-            Some("count") => count(words),
-            Some("length") => length(words),
-            Some("ends") => ends(words),
-            Some("get") => get(words),
-            Some("put") => put(words),
-            Some(_) => Err(Fault::UnknownCommand),
-            None => Err(Fault::MissingWord(Part::Command)),
+        match name {
+            "count" => count(words),
+            "length" => length(words),
+            "ends" => ends(words),
+            "get" => get(words),
+            "put" => put(words),
+            _ => Err(Fault::UnknownCommand),
         }
     }
 }
 
-// The bank of plain drives has the number 8.
-fn bank_at(words: &[&str], at: usize) -> Result<(), Fault>
-    ensures { result ≡ bank_at (texts words.now) at }
+fn count(mut words: Words) -> Result<BankCommand, Fault>
+    ensures { (name : List ℕ) → result ≡ count_said (name ∷ unread words.entry) }
 {
-    match word_at(words, at) {
-        Some("8") => Ok(()),
-        Some(_) => Err(Fault::NotBank),
-        None => Err(Fault::MissingWord(Part::Bank)),
-    }
-}
-
-fn count(words: &[&str]) -> Result<BankCommand, Fault>
-    ensures { result ≡ count_said (texts words.now) }
-{
-    bank_at(words, 1)?;
-    end_at(words, 2)?;
+    words.bank()?;
+    words.end()?;
     Ok(BankCommand::Count)
 }
 
-fn length(words: &[&str]) -> Result<BankCommand, Fault>
-    ensures { result ≡ length_said (texts words.now) }
+fn length(mut words: Words) -> Result<BankCommand, Fault>
+    ensures { (name : List ℕ) → result ≡ length_said (name ∷ unread words.entry) }
 {
-    let drive = drive_at(words, 1)?;
-    end_at(words, 2)?;
+    let drive = words.drive()?;
+    words.end()?;
     Ok(BankCommand::Length { drive })
 }
 
-fn ends(words: &[&str]) -> Result<BankCommand, Fault>
-    ensures { result ≡ ends_said (texts words.now) }
+fn ends(mut words: Words) -> Result<BankCommand, Fault>
+    ensures { (name : List ℕ) → result ≡ ends_said (name ∷ unread words.entry) }
 {
-    let drive = drive_at(words, 1)?;
-    let sector = number_at(words, 2, Part::Sector)?;
-    end_at(words, 3)?;
-    let address = Address { drive, sector };
+    let address = words.address()?;
+    words.end()?;
     Ok(BankCommand::Ends { address })
 }
 
-fn get(words: &[&str]) -> Result<BankCommand, Fault>
-    ensures { result ≡ get_said (texts words.now) }
+#[tactic(auto, using(crate::proofs::Places::size_behind))]
+fn get(mut words: Words) -> Result<BankCommand, Fault>
+    ensures { (name : List ℕ) → result ≡ get_said (name ∷ unread words.entry) }
 {
-    let drive = drive_at(words, 1)?;
-    let sector = number_at(words, 2, Part::Sector)?;
-    let size = size_at(words, 3)?;
-    let address = Address { drive, sector };
+    let address = words.address()?;
+    let size = words.size()?;
     Ok(BankCommand::Get { address, size })
 }
 
-fn put(words: &[&str]) -> Result<BankCommand, Fault>
-    ensures { result ≡ put_said (texts words.now) }
+fn put(mut words: Words) -> Result<BankCommand, Fault>
+    ensures { (name : List ℕ) → result ≡ put_said (name ∷ unread words.entry) }
 {
-    let drive = drive_at(words, 1)?;
-    let sector = number_at(words, 2, Part::Sector)?;
-    let seed = number_at(words, 3, Part::Seed)?;
-    let size = size_at(words, 4)?;
-    let address = Address { drive, sector };
+    let address = words.address()?;
+    let seed = words.number(Part::Seed)?;
+    let size = words.size()?;
     Ok(BankCommand::Put {
         address,
         seed,

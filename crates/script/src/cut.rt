@@ -1,6 +1,7 @@
 // The words of a command: what stands between its spaces.
-ghost use Rattle.std.specs.Prelude.{◌≡◌, MatchResult};
+ghost use Rattle.std.specs.Prelude.{◌==◌, length, ◌≡◌, MatchResult};
 ghost use Rattle.lines.specs.declared.fault.Fault.TheVariants.{NoMemory};
+ghost use Rattle.std.specs.List.{list_any};
 ghost use Rattle.lines.specs.Texts.{texts};
 ghost use Rattle.script.specs.Cuts.{Cut, solid};
 
@@ -14,13 +15,18 @@ pub fn split<'a>(heap: Global, text: &'a str) -> Result<Vec<&'a str>, Fault>
     Ok(text.split(' ').collect(heap)?)
 }
 
+#[tactic(auto, using(crate::proofs::Cuts::hollow_any))]
 pub fn all_solid(words: &[&str]) -> Result<(), Fault>
     ensures { result ≡ solid (texts words.now) }
 {
-    for word in words {
-        if word.is_empty() {
-            return Err(Fault::EmptyWord);
-        }
+    if any_empty(words) {
+        return Err(Fault::EmptyWord);
     }
     Ok(())
+}
+
+fn any_empty(words: &[&str]) -> bool
+    ensures { result ≡ list_any (λ word. length word.now == 0) words.now }
+{
+    words.iter().any(|word| word.is_empty())
 }

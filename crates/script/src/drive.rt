@@ -1,10 +1,12 @@
 // The drives that a script describes before its other commands.
-ghost use Rattle.std.specs.Prelude.{◌≡◌, ◌≤◌, length, vec_items};
+ghost use Rattle.std.specs.Prelude.{◌≡◌, ℕ, List, ◌∷◌, ◌≤◌, length, vec_items, codes, position, unwrap_or};
 ghost use Rattle.script.specs.Drives.{Read, told_drive, numbers, marked_in, seam_in, lists_in, memory_said, rom_said};
+ghost use Rattle.std.specs.Str.{bytes_eq};
 ghost use Rattle.lines.specs.Texts.{texts};
+ghost use Rattle.script.specs.Words.{unread};
 
-use super::words::{at_most, end_at, number_at, word_at};
-use lines::{Fault, Part, number};
+use super::words::{Words, at_most, number_of};
+use lines::{Fault, Part};
 use std::alloc::Global;
 
 // A memory drive's bytes are held in memory: 1 GiB at most.
@@ -24,18 +26,19 @@ pub enum Drive {
 
 impl Drive {
     // memory SECTORS [unreadable N ..] [unwritable N ..]
-    pub(super) fn memory(heap: Global, words: &[&str]) -> Result<Drive, Fault>
-        ensures { Read told_drive (memory_said (texts words.now)) result }
+    pub(super) fn memory(heap: Global, mut words: Words) -> Result<Drive, Fault>
+        ensures { (name : List ℕ) → Read told_drive (memory_said (name ∷ unread words.entry)) result }
     {
-        let sectors = number_at(words, 1, Part::Sectors)?;
+        let sectors = words.number(Part::Sectors)?;
         let sectors = at_most(sectors, Part::Sectors, MOST_SECTORS)?;
-        Drive::with_lists(heap, sectors, &words[2..])
+        Drive::with_lists(heap, sectors, words.left)
     }
 
+    #[tactic(auto, using(crate::proofs::Drives::lists_cut))]
     fn with_lists(heap: Global, sectors: u64, words: &[&str]) -> Result<Drive, Fault>
         ensures { Read told_drive (lists_in sectors (texts words.now)) result }
     {
-        let (front, back) = words.split_at(seam(words));
+        let (front, back) = words.split_at(seam(words).unwrap_or(words.len()));
         let unreadable = marked(heap, front, "unreadable", Part::Unreadable)?;
         let unwritable = marked(heap, back, "unwritable", Part::Unwritable)?;
         Ok(Drive::Memory {
@@ -46,42 +49,33 @@ impl Drive {
     }
 
     // rom SECTORS
-    pub(super) fn rom(words: &[&str]) -> Result<Drive, Fault>
-        ensures { Read told_drive (rom_said (texts words.now)) result }
+    pub(super) fn rom(mut words: Words) -> Result<Drive, Fault>
+        ensures { (name : List ℕ) → Read told_drive (rom_said (name ∷ unread words.entry)) result }
     {
-        let sectors = number_at(words, 1, Part::Sectors)?;
-        end_at(words, 2)?;
+        let sectors = words.number(Part::Sectors)?;
+        words.end()?;
         Ok(Drive::Rom { sectors })
     }
 }
 
-// Where the second list begins, or the words end.
-fn seam(words: &[&str]) -> usize
-    ensures within { result ≤ length words.now }
-    ensures value { result ≡ seam_in (texts words.now) }
+// Where the list of unwritable sectors begins, if there is one.
+fn seam(words: &[&str]) -> Option<usize>
+    ensures { result ≡ position (λ word. bytes_eq word.now (codes "unwritable")) words.now }
 {
-    for (at, word) in words.iter().enumerate() {
-        if *word == "unwritable" {
-            return at;
-        }
-    }
-    words.len()
+    words.iter().position(|word| *word == "unwritable")
 }
 
 // A list of sectors: nothing, or its name and one number or more.
+#[tactic(auto, using(crate::proofs::Drives::name_alone, crate::proofs::Drives::name_first))]
 fn marked(heap: Global, words: &[&str], name: &str, part: Part) -> Result<Vec<u64>, Fault>
     ensures { Read vec_items (marked_in name.now part (texts words.now)) result }
 {
-    let Some(first) = word_at(words, 0) else {
-        return Ok(Vec::new(heap));
-    };
-    if first != name {
-        return Err(Fault::ExtraWord);
+    match words {
+        [] => Ok(Vec::new(heap)),
+        [first, ..] if *first != name => Err(Fault::ExtraWord),
+        [_] => Err(Fault::MissingWord(part)),
+        [_, numbers @ ..] => all_numbers(heap, numbers, part),
     }
-    if words.len() == 1 {
-        return Err(Fault::MissingWord(part));
-    }
-    all_numbers(heap, &words[1..], part)
 }
 
 fn all_numbers(heap: Global, words: &[&str], part: Part) -> Result<Vec<u64>, Fault>
@@ -89,10 +83,7 @@ fn all_numbers(heap: Global, words: &[&str], part: Part) -> Result<Vec<u64>, Fau
 {
     let mut list = Vec::new(heap);
     for word in words {
-        let Some(sector) = number(word) else {
-            return Err(Fault::NotNumber(part));
-        };
-        list.push(sector)?;
+        list.push(number_of(word, part)?)?;
     }
     Ok(list)
 }
