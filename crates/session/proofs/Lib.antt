@@ -1,1 +1,2 @@
 mod Askings
+pub mod HexDigits

@@ -9,11 +9,7 @@ const PRIME: u32 = 0x0100_0193;
 pub fn digest(bytes: &[u8]) -> u32
     ensures { result ≡ fnv bytes.now }
 {
-    let mut hash = BASIS;
-    for byte in bytes {
-        hash = mixed(hash, *byte);
-    }
-    hash
+    bytes.iter().fold(BASIS, |hash, byte| mixed(hash, *byte))
 }
 
 // One byte more.

@@ -5,8 +5,8 @@ ghost use Rattle.session.specs.Seed.{seed_byte, sown};
 pub fn sow(place: &mut [u8], seed: u64)
     ensures { place.new ≡ sown seed (length place.old) }
 {
-    for index in 0..place.len() {
-        place[index] = sprout(seed, index);
+    for (index, byte) in place.iter_mut().enumerate() {
+        *byte = sprout(seed, index);
     }
 }
 
