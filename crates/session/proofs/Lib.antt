@@ -1,2 +1,1 @@
-mod Askings
-pub mod HexDigits
+mod HexDigits

@@ -39,21 +39,21 @@ got_into m drive sector place = got (read_due m drive sector (length place)) (fn
 abbrev pub due : Meaning → BankCommand → Answer
 due m Count = counted m.drives
 due m (Length drive) = measured (m.size drive)
-due m (Ends drive sector) = ended (m.reads drive sector) (cause_of (m.writes drive sector))
-due m (Get drive sector size) = got_into m drive sector (blank_buffer size)
-due m (Put drive sector seed size) = stored (cause_of (write_due m drive sector size))
+due m (Ends a) = ended (m.reads a.drive a.sector) (cause_of (m.writes a.drive a.sector))
+due m (Get a size) = got_into m a.drive a.sector (blank_buffer size)
+due m (Put a seed size) = stored (cause_of (write_due m a.drive a.sector size))
 
 -- the cells that a command writes, and what it writes into them
 abbrev pub reached : Meaning → BankCommand → List Cell
 reached m Count = []
 reached m (Length drive) = []
-reached m (Ends drive sector) = []
-reached m (Get drive sector size) = []
-reached m (Put drive sector seed size) = cells_of (write_due m drive sector size)
+reached m (Ends a) = []
+reached m (Get a size) = []
+reached m (Put a seed size) = cells_of (write_due m a.drive a.sector size)
 
 abbrev pub carried : BankCommand → List ℕ
 carried Count = []
 carried (Length drive) = []
-carried (Ends drive sector) = []
-carried (Get drive sector size) = []
-carried (Put drive sector seed size) = sown seed size
+carried (Ends a) = []
+carried (Get a size) = []
+carried (Put a seed size) = sown seed size

@@ -1,28 +1,26 @@
 -- The counts of a script and the line that sums them up.
-use Rattle.std.specs.Prelude.{ℕ, ◌+◌, Bool, true, false, cond, ◌||◌, List, ◌++◌, codes, decimal, nat_lt}
-use Rattle.lines.specs.Rest.{more}
+use Rattle.std.specs.Prelude.{ℕ, ◌+◌, Bool, cond, List, ◌++◌, codes, decimal}
 use Rattle.session.specs.declared.tally.Tally.{Tally}
+use Rattle.session.specs.Scores.{no_marks, marked, has_marks}
 
 abbrev pub none_yet : Tally
-none_yet = record { ok = 0; refused = 0; met = 0; unmet = 0 }
+none_yet = record { commands = no_marks; expectations = no_marks }
 
 -- one command more, obeyed or refused
 abbrev pub counted : Bool → Tally → Tally
-counted true t = record { ok = more t.ok; refused = t.refused; met = t.met; unmet = t.unmet }
-counted false t = record { ok = t.ok; refused = more t.refused; met = t.met; unmet = t.unmet }
+counted obeyed t = record { commands = marked obeyed t.commands; expectations = t.expectations }
 
 -- one expectation more, met or not
 abbrev pub compared : Bool → Tally → Tally
-compared true t = record { ok = t.ok; refused = t.refused; met = more t.met; unmet = t.unmet }
-compared false t = record { ok = t.ok; refused = t.refused; met = t.met; unmet = more t.unmet }
+compared met t = record { commands = t.commands; expectations = marked met t.expectations }
 
 -- whether there were expectations
 abbrev pub expects : Tally → Bool
-expects t = nat_lt 0 t.met || nat_lt 0 t.unmet
+expects t = has_marks t.expectations
 
 -- the line, in which expectations are named where there were any
 abbrev pub tally_text : Tally → List ℕ
 tally_text t =
     cond (expects t)
-    (decimal (t.ok + t.refused) ++ (codes " commands: " ++ (decimal t.ok ++ (codes " ok, " ++ (decimal t.refused ++ (codes " refused; " ++ (decimal t.met ++ (codes " as expected, " ++ (decimal t.unmet ++ codes " not")))))))))
-    (decimal (t.ok + t.refused) ++ (codes " commands: " ++ (decimal t.ok ++ (codes " ok, " ++ (decimal t.refused ++ codes " refused")))))
+    (decimal (t.commands.passed + t.commands.failed) ++ (codes " commands: " ++ (decimal t.commands.passed ++ (codes " ok, " ++ (decimal t.commands.failed ++ (codes " refused; " ++ (decimal t.expectations.passed ++ (codes " as expected, " ++ (decimal t.expectations.failed ++ codes " not")))))))))
+    (decimal (t.commands.passed + t.commands.failed) ++ (codes " commands: " ++ (decimal t.commands.passed ++ (codes " ok, " ++ (decimal t.commands.failed ++ codes " refused")))))

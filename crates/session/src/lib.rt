@@ -2,6 +2,7 @@
 #![tactic(auto)]
 
 mod deeds;
+mod ends;
 mod fnv;
 mod hex;
 mod outcome;
@@ -15,4 +16,4 @@ pub use hex::Hex;
 pub use outcome::Outcome;
 pub use seed::sow;
 pub use session::Session;
-pub use tally::Tally;
+pub use tally::{Score, Tally};

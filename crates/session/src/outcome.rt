@@ -2,6 +2,7 @@
 ghost use Rattle.std.specs.Prelude.{◌≡◌, Some};
 ghost use Rattle.session.specs.Outcomes.{outcome_text, accepted};
 
+use super::ends::{Filled, ReadEnd, WriteEnd};
 use super::hex::Hex;
 use bank::{Cause, Source};
 use std::fmt;
@@ -33,11 +34,10 @@ impl Outcome {
     pub(super) fn accepted(&self) -> bool
         ensures { result ≡ accepted self.now }
     {
-        match self {
-            Outcome::Got { from: Err(_), .. } => false,
-            Outcome::Stored(Err(_)) => false,
-            _ => true,
-        }
+        !matches!(
+            self,
+            Outcome::Got { from: Err(_), .. } | Outcome::Stored(Err(_))
+        )
     }
 }
 
@@ -49,35 +49,11 @@ impl fmt::Display for Outcome {
             Outcome::Attached { drive } => write!(f, "ok 8:{drive}"),
             Outcome::Counted { drives } => write!(f, "ok {drives}"),
             Outcome::Measured { sectors } => write!(f, "ok {sectors}"),
-            Outcome::Ended {
-                read: Ok(end),
-                write: None,
-            } => write!(f, "ok read {end} write free"),
-            Outcome::Ended {
-                read: Ok(end),
-                write: Some(cause),
-            } => write!(f, "ok read {end} write {cause}"),
-            Outcome::Ended {
-                read: Err(end),
-                write: None,
-            } => write!(f, "ok read {end} write free"),
-            Outcome::Ended {
-                read: Err(end),
-                write: Some(cause),
-            } => write!(f, "ok read {end} write {cause}"),
-            Outcome::Got {
-                from: Ok(source),
-                digest,
-            } => {
-                let hex = Hex(*digest);
-                write!(f, "ok {source} buffer {hex}")
+            Outcome::Ended { read, write } => {
+                write!(f, "ok read {} write {}", ReadEnd(*read), WriteEnd(*write))
             }
-            Outcome::Got {
-                from: Err(cause),
-                digest,
-            } => {
-                let hex = Hex(*digest);
-                write!(f, "{cause} buffer {hex}")
+            Outcome::Got { from, digest } => {
+                write!(f, "{} buffer {}", Filled(*from), Hex(*digest))
             }
             Outcome::Stored(Ok(())) => f.write_str("ok"),
             Outcome::Stored(Err(cause)) => write!(f, "{cause}"),

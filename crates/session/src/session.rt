@@ -9,7 +9,7 @@ use super::tally::Tally;
 use lines::Fault;
 use std::alloc::{AllocError, Global};
 
-#[derive(Drop)]
+#[derive(Default, Drop)]
 pub struct Session {
     pub tally: Tally,
     latest: Option<String>,
@@ -20,10 +20,7 @@ impl Session {
         ensures tally { result.tally ≡ none_yet }
         ensures latest { latest_text result ≡ None }
     {
-        Session {
-            tally: Tally::new(),
-            latest: None,
-        }
+        Session::default()
     }
 
     // Counts a command and keeps its outcome line; without memory for the line, nothing changes.
@@ -32,7 +29,7 @@ impl Session {
         ensures latest { OnOk result (latest_text self.new ≡ Some (outcome_text outcome.now)) }
     {
         let line = outcome.to_string(heap)?;
-        self.tally.count(outcome.accepted());
+        self.tally.commands.mark(outcome.accepted());
         self.latest = Some(line);
         Ok(())
     }
@@ -43,11 +40,9 @@ impl Session {
         ensures tally { self.new.tally ≡ judged (latest_text self.old) text.now self.old.tally }
         ensures same { latest_text self.new ≡ latest_text self.old }
     {
-        let Some(line) = &self.latest else {
-            return Err(Fault::NothingBefore);
-        };
+        let line = self.latest.as_ref().ok_or(Fault::NothingBefore)?;
         let met = line.as_str() == text;
-        self.tally.compare(met);
+        self.tally.expectations.mark(met);
         Ok(met)
     }
 }

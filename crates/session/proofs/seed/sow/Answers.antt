@@ -1,11 +1,7 @@
 use Rattle.std.proofs.Common.{arith}
-use Rattle.std.proofs.lemmas.List.Edits.{fill_by_more}
 use Rattle.std.proofs.lemmas.List.FromFn.{fill_by_all}
 use Rattle.session.specs.Seed.{seed_byte}
 use Rattle.session.proofs.seed.sow.Goals as goal
-
-pub loop-index-preserved : goal.loop-index-preserved
-loop-index-preserved c = rw c.sprout.ensures (fill_by_more (seed_byte c.args.seed) c.loop-index.place c.loop-index.index 0 (omega arith) c.loop-index.invariant)
 
 pub returns : goal.returns
 returns c = fill_by_all (seed_byte c.args.seed) _ _ 0 (omega arith) (λ k h. c.loop-index.invariant k (omega arith))
