@@ -2,6 +2,8 @@
 ghost use Rattle.std.specs.Prelude.{◌≡◌, length};
 ghost use Rattle.session.specs.Seed.{seed_byte, sown};
 
+use bank::SECTOR;
+
 pub fn sow(place: &mut [u8], seed: u64)
     ensures { place.new ≡ sown seed (length place.old) }
 {
@@ -14,6 +16,6 @@ pub fn sow(place: &mut [u8], seed: u64)
 fn sprout(seed: u64, index: usize) -> u8
     ensures { result ≡ seed_byte seed index }
 {
-    let place = index as u64;
-    ((seed % 256 + 31 * (place / 512) + place % 512) % 256) as u8
+    let step = 31 * (index / SECTOR) + index % SECTOR;
+    ((seed % 256 + step as u64) % 256) as u8
 }
