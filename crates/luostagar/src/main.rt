@@ -4,10 +4,10 @@
 ghost use Rattle.std.specs.Prelude.{◌≡◌, if◌then◌else◌, is_ok};
 ghost use Rattle.std.specs.Process.{exit_status};
 
+mod joined;
 mod run;
 
-use lines::{Fault, Lines};
-use run::{Trouble, run};
+use run::{Run, Trouble};
 use std::io::Read;
 use std::process::ExitCode;
 use std::{env, fmt, fs, io};
@@ -47,15 +47,12 @@ fn status(ended: io::Result<()>) -> ExitCode
 }
 
 fn start(rt: &HostRuntime) -> io::Result<()> {
-    let mut names = Vec::new(rt.alloc());
-    for name in env::args(rt)?.skip(1) {
-        names.push(name)?;
-    }
+    let names: Vec<String> = env::args(rt)?.skip(1).collect(rt.alloc())?;
     match names.as_slice() {
         [] => run_input(rt),
         [only] if only.as_str() == "--help" => rt.print(HELP),
         [only] => run_alone(rt, &read(rt, only.as_str())?),
-        _ => run_all(rt, &names),
+        names => run_all(rt, names),
     }
 }
 
@@ -66,59 +63,34 @@ fn run_input(rt: &HostRuntime) -> io::Result<()> {
 }
 
 fn run_alone(rt: &HostRuntime, text: &[u8]) -> io::Result<()> {
-    if let Some(malformed) = play(rt, text)? {
-        eprintln!(rt; "error: {malformed}")?;
-        return Err(io::ErrorKind::InvalidData.into());
-    }
-    Ok(())
+    play(rt, text, "")
 }
 
 // The outputs of several files, and their errors, are told apart by the files' names.
-fn run_all(rt: &HostRuntime, names: &Vec<String>) -> io::Result<()> {
-    for name in names.iter() {
+fn run_all(rt: &HostRuntime, names: &[String]) -> io::Result<()> {
+    for name in names {
         println!(rt; "== {name}")?;
-        let text = read(rt, name.as_str())?;
-        if let Some(malformed) = play(rt, &text)? {
-            eprintln!(rt; "error: {name}: {malformed}")?;
-            return Err(io::ErrorKind::InvalidData.into());
-        }
+        play(rt, &read(rt, name.as_str())?, format_args!("{name}: "))?;
     }
     Ok(())
 }
 
 fn read(rt: &HostRuntime, name: &str) -> io::Result<Vec<u8>> {
-    match fs::read(rt, name) {
-        Ok(text) => Ok(text),
-        Err(error) => {
-            eprintln!(rt; "error: {name}: {error}")?;
-            Err(error)
+    // Where nothing can be printed, the status tells of the error all the same.
+    fs::read(rt, name).inspect_err(|error| {
+        let _ = eprintln!(rt; "error: {name}: {error}");
+    })
+}
+
+// Runs a script. A malformed line in it is named behind the words that tell the script from others.
+fn play(rt: &HostRuntime, text: &[u8], script: impl fmt::Display + Drop) -> io::Result<()> {
+    let mut run = Run::new(rt, text);
+    run.to_end().map_err(|trouble| match trouble {
+        Trouble::Outside(error) => error,
+        Trouble::Malformed(fault) => {
+            let line = run.lines.number;
+            let _ = eprintln!(rt; "error: {script}line {line}: {fault}");
+            io::ErrorKind::InvalidData.into()
         }
-    }
-}
-
-// A line that ended a run, and why.
-#[derive(Clone, Copy)]
-struct Malformed {
-    line: u64,
-    fault: Fault,
-}
-
-impl fmt::Display for Malformed {
-    fn fmt<W: fmt::Write>(&self, f: &mut fmt::Formatter<W>) -> fmt::Result {
-        let line = self.line;
-        let fault = self.fault;
-        write!(f, "line {line}: {fault}")
-    }
-}
-
-fn play(rt: &HostRuntime, text: &[u8]) -> io::Result<Option<Malformed>> {
-    let mut lines = Lines::new(text);
-    match run(rt, &mut lines) {
-        Ok(()) => Ok(None),
-        Err(Trouble::Outside(error)) => Err(error),
-        Err(Trouble::Malformed(fault)) => Ok(Some(Malformed {
-            line: lines.number,
-            fault,
-        })),
-    }
+    })
 }

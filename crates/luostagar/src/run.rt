@@ -2,10 +2,10 @@
 ghost use Rattle.std.specs.Prelude.{◌≡◌, ◌<◌, IfNone, IfOk, MatchOption, OnOk};
 ghost use Rattle.lines.specs.Rest.{left};
 
+use super::joined::joined;
 use bank::{Bank, Plain};
 use layout::{Eight, Layout};
 use lines::{Fault, Line, Lines};
-use pair::Pair;
 use script::{BankCommand, Command};
 use session::{Outcome, Session, perform};
 use std::alloc::AllocError;
@@ -36,175 +36,122 @@ impl From<io::Error> for Trouble {
     }
 }
 
-// Runs every line, unless trouble comes between.
-pub fn run(rt: &HostRuntime, lines: &mut Lines) -> Result<(), Trouble>
-    ensures { OnOk result (left lines.new ≡ 0) }
-{
-    let mut session = Session::new();
-    let mut layout = Layout::new();
-    match play(rt, lines, &mut session, &mut layout) {
-        Ok(()) => sum_up(rt, &session),
-        Err(trouble) => Err(trouble),
+// One run of a script: its lines, as far as they are read, and what it remembers.
+#[derive(Drop)]
+pub struct Run<'a> {
+    rt: &'a HostRuntime,
+    pub lines: Lines<'a>,
+    session: Session,
+}
+
+impl<'a> Run<'a> {
+    pub fn new(rt: &'a HostRuntime, text: &'a [u8]) -> Run<'a>
+        ensures rest { result.lines.rest.now ≡ text.now }
+        ensures number { result.lines.number ≡ 0 }
+    {
+        Run {
+            rt,
+            lines: Lines::new(text),
+            session: Session::new(),
+        }
     }
-}
 
-fn sum_up(rt: &HostRuntime, session: &Session) -> Result<(), Trouble> {
-    let tally = session.tally;
-    println!(rt; "{tally}")?;
-    Ok(())
-}
-
-fn play(
-    rt: &HostRuntime,
-    lines: &mut Lines,
-    session: &mut Session,
-    layout: &mut Layout,
-) -> Result<(), Trouble>
-    ensures { OnOk result (left lines.new ≡ 0) }
-{
-    match describe(rt, lines, session, layout)? {
-        Some(first) => on_eight(rt, lines, session, first, layout.slots()),
-        None => Ok(()),
+    // Runs every line, unless trouble comes between.
+    pub fn to_end(&mut self) -> Result<(), Trouble>
+        ensures { OnOk result (left self.new.lines ≡ 0) }
+    {
+        self.on(&mut Layout::new())
     }
-}
 
-// Eight banks become one, two by two.
-fn on_eight<T: Plain + Drop>(
-    rt: &HostRuntime,
-    lines: &mut Lines,
-    session: &mut Session,
-    first: BankCommand,
-    banks: Eight<T>,
-) -> Result<(), Trouble>
-    ensures { OnOk result (left lines.new ≡ 0) }
-{
-    let Eight {
-        a,
-        b,
-        c,
-        d,
-        e,
-        f,
-        g,
-        h,
-    } = banks;
-    on_four(
-        rt,
-        lines,
-        session,
-        first,
-        Pair::new(a, b),
-        Pair::new(c, d),
-        Pair::new(e, f),
-        Pair::new(g, h),
-    )
-}
+    fn on(&mut self, layout: &mut Layout) -> Result<(), Trouble>
+        ensures { OnOk result (left self.new.lines ≡ 0) }
+    {
+        if let Some(first) = self.describe(layout)? {
+            self.ask_eight(layout.slots(), first)?;
+        }
+        self.sum_up()
+    }
 
-fn on_four<T: Plain + Drop>(
-    rt: &HostRuntime,
-    lines: &mut Lines,
-    session: &mut Session,
-    first: BankCommand,
-    a: T,
-    b: T,
-    c: T,
-    d: T,
-) -> Result<(), Trouble>
-    ensures { OnOk result (left lines.new ≡ 0) }
-{
-    on_two(rt, lines, session, first, Pair::new(a, b), Pair::new(c, d))
-}
+    fn ask_eight<T: Plain + Drop>(
+        &mut self,
+        banks: Eight<T>,
+        first: BankCommand,
+    ) -> Result<(), Trouble>
+        ensures { OnOk result (left self.new.lines ≡ 0) }
+    {
+        self.ask(&mut joined(banks), first)
+    }
 
-fn on_two<T: Plain + Drop>(
-    rt: &HostRuntime,
-    lines: &mut Lines,
-    session: &mut Session,
-    first: BankCommand,
-    a: T,
-    b: T,
-) -> Result<(), Trouble>
-    ensures { OnOk result (left lines.new ≡ 0) }
-{
-    let mut bank = Pair::new(a, b);
-    answer(rt, &mut bank, session, first)?;
-    ask(rt, &mut bank, lines, session)
-}
-
-// Takes in the drives. The first command that asks the bank is handed on.
-fn describe(
-    rt: &HostRuntime,
-    lines: &mut Lines,
-    session: &mut Session,
-    layout: &mut Layout,
-) -> Result<Option<BankCommand>, Trouble>
-    ensures { IfOk result (λ first. IfNone first (left lines.new ≡ 0)) }
-{
-    while let Some(command) = next_command(rt, lines, session)? {
-        match command {
-            Command::Bank(command) => return Ok(Some(command)),
-            Command::Drive(drive) => {
-                let drive = layout.add(rt.alloc(), drive)?;
-                note(rt, session, Outcome::Attached { drive })?;
+    // Takes in the drives. The first command that asks the bank is handed on.
+    fn describe(&mut self, layout: &mut Layout) -> Result<Option<BankCommand>, Trouble>
+        ensures { IfOk result (λ first. IfNone first (left self.new.lines ≡ 0)) }
+    {
+        while let Some(command) = self.next_command()? {
+            match command {
+                Command::Bank(command) => return Ok(Some(command)),
+                Command::Drive(drive) => {
+                    let drive = layout.add(self.rt.alloc(), drive)?;
+                    self.note(Outcome::Attached { drive })?;
+                }
             }
         }
+        Ok(None)
     }
-    Ok(None)
-}
 
-fn ask<B: Bank>(
-    rt: &HostRuntime,
-    bank: &mut B,
-    lines: &mut Lines,
-    session: &mut Session,
-) -> Result<(), Trouble>
-    ensures { OnOk result (left lines.new ≡ 0) }
-{
-    while let Some(command) = next_command(rt, lines, session)? {
-        match command {
-            Command::Bank(command) => answer(rt, bank, session, command)?,
-            Command::Drive(_) => return Err(Trouble::Malformed(Fault::LateDrive)),
+    // Has the bank answer a command and those behind it.
+    fn ask<B: Bank>(&mut self, bank: &mut B, first: BankCommand) -> Result<(), Trouble>
+        ensures { OnOk result (left self.new.lines ≡ 0) }
+    {
+        self.answer(bank, first)?;
+        while let Some(command) = self.next_command()? {
+            match command {
+                Command::Bank(command) => self.answer(bank, command)?,
+                Command::Drive(_) => return Err(Trouble::Malformed(Fault::LateDrive)),
+            }
         }
+        Ok(())
     }
-    Ok(())
-}
 
-// The next command. Expectations on the way to it are held against the outcome before them.
-fn next_command(
-    rt: &HostRuntime,
-    lines: &mut Lines,
-    session: &mut Session,
-) -> Result<Option<Command>, Trouble>
-    ensures { IfOk result (λ command. MatchOption command (left lines.new ≡ 0) (λ _. left lines.new < left lines.old)) }
-{
-    while let Some(bytes) = lines.next() {
-        match Line::parse(bytes)? {
-            Line::Skipped => {}
-            Line::Expectation(text) => compare(rt, session, text)?,
-            Line::Command(text) => return Ok(Some(Command::parse(rt.alloc(), text)?)),
+    // The next command. Expectations on the way to it are held against the outcome before them.
+    fn next_command(&mut self) -> Result<Option<Command>, Trouble>
+        ensures { IfOk result (λ command. MatchOption command (left self.new.lines ≡ 0) (λ _. left self.new.lines < left self.old.lines)) }
+    {
+        while let Some(bytes) = self.lines.next() {
+            match Line::parse(bytes)? {
+                Line::Skipped => {}
+                Line::Expectation(text) => self.compare(text)?,
+                Line::Command(text) => return Ok(Some(Command::parse(self.rt.alloc(), text)?)),
+            }
         }
+        Ok(None)
     }
-    Ok(None)
-}
 
-fn compare(rt: &HostRuntime, session: &mut Session, text: &str) -> Result<(), Trouble> {
-    if !session.expect(text)? {
-        println!(rt; "differs: {text}")?;
+    fn compare(&mut self, text: &str) -> Result<(), Trouble>
+        ensures { self.new.lines ≡ self.old.lines }
+    {
+        if !self.session.expect(text)? {
+            println!(self.rt; "differs: {text}")?;
+        }
+        Ok(())
     }
-    Ok(())
-}
 
-fn answer<B: Bank>(
-    rt: &HostRuntime,
-    bank: &mut B,
-    session: &mut Session,
-    command: BankCommand,
-) -> Result<(), Trouble> {
-    let outcome = perform(rt.alloc(), bank, command)?;
-    note(rt, session, outcome)
-}
+    fn answer<B: Bank>(&mut self, bank: &mut B, command: BankCommand) -> Result<(), Trouble>
+        ensures { self.new.lines ≡ self.old.lines }
+    {
+        let outcome = perform(self.rt.alloc(), bank, command)?;
+        self.note(outcome)
+    }
 
-fn note(rt: &HostRuntime, session: &mut Session, outcome: Outcome) -> Result<(), Trouble> {
-    session.note(rt.alloc(), &outcome)?;
-    println!(rt; "{outcome}")?;
-    Ok(())
+    fn note(&mut self, outcome: Outcome) -> Result<(), Trouble>
+        ensures { self.new.lines ≡ self.old.lines }
+    {
+        self.session.note(self.rt.alloc(), &outcome)?;
+        println!(self.rt; "{outcome}")?;
+        Ok(())
+    }
+
+    fn sum_up(&self) -> Result<(), Trouble> {
+        println!(self.rt; "{}", self.session.tally)?;
+        Ok(())
+    }
 }

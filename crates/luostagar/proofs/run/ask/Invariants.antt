@@ -1,5 +1,0 @@
-use Rattle.lines.specs.Rest.{left}
-use Rattle.luostagar.proofs.run.ask.Given as goal
-
-abbrev pub decreases-loop-command : goal.decreases-loop-command
-decreases-loop-command g l = left l.lines
