@@ -1,12 +1,13 @@
 -- The words of a text, and the search for an empty one.
-use Rattle.std.proofs.Common.{refl, ◌≡◌, ℕ, suc, ◌<◌, ◌||◌, List, [], ◌∷◌, length, get_or, sym, arith, Bor}
+use Rattle.std.proofs.Common.{Ok, Err, cond, ap, refl, ◌≡◌, ℕ, suc, ◌<◌, ◌||◌, List, [], ◌∷◌, length, get_or, sym, arith, Bor}
 use Rattle.std.specs.Str.Iter.{LacksByte}
 use Rattle.std.specs.Prelude.{◌==◌}
 use Rattle.std.specs.List.{list_any, join_with_byte, AllByRecursion}
 use Rattle.std.proofs.lemmas.List.{length-map}
 use Rattle.std.proofs.lemmas.List.Recursion.{same_from_clauses}
+use Rattle.lines.specs.declared.fault.Fault.TheVariants.{EmptyWord}
 use Rattle.lines.specs.Texts.{texts}
-use Rattle.script.specs.Cuts.{Cut, hollow}
+use Rattle.script.specs.Cuts.{Cut, hollow, solid}
 
 -- the words of a text, from what each of them says at its place
 pub cut_by : (text : List ℕ) (refs : List (Bor (List ℕ))) → text ≡ join_with_byte 32 (texts refs) → ((k : ℕ) (d : Bor (List ℕ)) → k < length refs → LacksByte 32 (get_or refs k d).now) → 0 < length refs → Cut text (texts refs)
@@ -16,6 +17,9 @@ cut_by text refs whole apart some = record { whole = sym whole; apart = each ref
     each [] h = tt
     each (r ∷ rs) h = (h 0 r (omega arith), each rs (λ k d l. h (suc k) d (omega arith)))
 
--- the test of each word of a line, as it is made of the words that a slice holds
-pub hollow_any : (refs : List (Bor (List ℕ))) → list_any (λ r. length r.now == 0) refs ≡ hollow (texts refs)
-hollow_any = same_from_clauses (λ rs. list_any (λ r. length r.now == 0) rs) (λ rs. hollow (texts rs)) (λ r h. length r.now == 0 || h) refl (λ _ _. refl) (λ _ _. refl)
+hollow_any : (refs : List (Bor (List ℕ))) → hollow (texts refs) ≡ list_any (λ r. length r.now == 0) refs
+hollow_any = same_from_clauses (λ rs. hollow (texts rs)) (λ rs. list_any (λ r. length r.now == 0) rs) (λ r h. length r.now == 0 || h) refl (λ _ _. refl) (λ _ _. refl)
+
+-- the words of a slice, by a test of each
+pub solid_by : (refs : List (Bor (List ℕ))) → solid (texts refs) ≡ cond (list_any (λ r. length r.now == 0) refs) (Err EmptyWord) (Ok tt)
+solid_by refs = ap (λ b. cond b (Err EmptyWord) (Ok tt)) (hollow_any refs)

@@ -59,7 +59,7 @@ impl Command {
 }
 
 impl BankCommand {
-    // A command is known by its name, and the words behind it.
+    // A command is known by its name, and a match is the plain form of a choice by name.
     fn parse(name: &str, words: Words) -> Result<BankCommand, Fault>
         ensures { result ≡ bank_said (name.now ∷ unread words.entry) }
     {
@@ -98,7 +98,7 @@ fn ends(mut words: Words) -> Result<BankCommand, Fault>
     Ok(BankCommand::Ends { address })
 }
 
-#[tactic(auto, using(crate::proofs::Places::size_behind))]
+#[tactic(auto, using(crate::proofs::Places::get_by))]
 fn get(mut words: Words) -> Result<BankCommand, Fault>
     ensures { (name : List ℕ) → result ≡ get_said (name ∷ unread words.entry) }
 {
@@ -107,6 +107,7 @@ fn get(mut words: Words) -> Result<BankCommand, Fault>
     Ok(BankCommand::Get { address, size })
 }
 
+#[tactic(auto, using(crate::proofs::Places::put_by))]
 fn put(mut words: Words) -> Result<BankCommand, Fault>
     ensures { (name : List ℕ) → result ≡ put_said (name ∷ unread words.entry) }
 {

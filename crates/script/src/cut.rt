@@ -9,13 +9,14 @@ use lines::Fault;
 use std::alloc::Global;
 
 // The words of a command stand one space apart, so that none of them is empty.
+#[tactic(auto, using(crate::proofs::Cuts::cut_by))]
 pub fn split<'a>(heap: Global, text: &'a str) -> Result<Vec<&'a str>, Fault>
     ensures { MatchResult result (λ words. Cut text.now (texts words.items)) (λ fault. fault ≡ NoMemory) }
 {
     Ok(text.split(' ').collect(heap)?)
 }
 
-#[tactic(auto, using(crate::proofs::Cuts::hollow_any))]
+#[tactic(auto, using(crate::proofs::Cuts::solid_by))]
 pub fn all_solid(words: &[&str]) -> Result<(), Fault>
     ensures { result ≡ solid (texts words.now) }
 {

@@ -82,6 +82,7 @@ fn all_numbers(heap: Global, words: &[&str], part: Part) -> Result<Vec<u64>, Fau
     ensures { Read vec_items (numbers part (texts words.now)) result }
 {
     let mut list = Vec::new(heap);
+    // A loop, not a chain that collects: the contract says which fault comes of a word that is no number.
     for word in words {
         list.push(number_of(word, part)?)?;
     }
