@@ -21,7 +21,8 @@ pub struct Memory<'a> {
 }
 
 impl<'a> Memory<'a> {
-    // A drive of the whole sectors in `bytes`. The first 8 entries of each list are its bad sectors.
+    // A drive of the whole sectors in `bytes`. The first 8 entries of each list are its bad sectors. The three are lent to this
+    // call alone and taken apart by no other, so that a struct for them would only be packed and unpacked.
     pub fn new(bytes: &'a mut [u8], unreadable: &'a [u64], unwritable: &'a [u64]) -> Memory<'a>
         ensures meaning { memory_means result ≡ one_drive (memory bytes.old unreadable.now unwritable.now) }
         ensures stands { MemoryStands result }
@@ -79,6 +80,7 @@ impl Bank for Memory<'_> {
 
     ghost lawful = { memory_lawful };
 
+    // One drive, as in `Rom`: nothing says it more plainly than the number.
     fn count(&self) -> u8 {
         1
     }

@@ -52,6 +52,7 @@ impl Bank for Rom {
 
     ghost lawful = { rom_lawful };
 
+    // One drive, as in `Memory`: nothing says it more plainly than the number.
     fn count(&self) -> u8 {
         1
     }

@@ -4,7 +4,7 @@ ghost use Rattle.layout.specs.Eights.{in_order};
 
 // An array would say it in a word, but the checker covers neither an array of slots, which hold `&mut`, nor an array whose
 // elements are lent one by one.
-#[derive(Drop)]
+#[derive(Default, Drop)]
 pub struct Eight<T> {
     pub a: T,
     pub b: T,
@@ -17,7 +17,7 @@ pub struct Eight<T> {
 }
 
 impl<T: Drop> Eight<T> {
-    // The one of a number, 0 to 7, is replaced; there is none of another number.
+    // The one of a number, 0 to 7, is replaced; there is none of another number. Fields have no index, so a match finds it.
     pub(super) fn put(&mut self, number: u8, value: T)
         ensures { in_order self.new ≡ slice_set (in_order self.old) number value }
     {

@@ -14,9 +14,9 @@ use lines::Fault;
 use script::Drive;
 use std::alloc::Global;
 
-#[derive(Drop)]
+#[derive(Default, Drop)]
 pub struct Layout {
-    // How many places are taken, from the first on: the places themselves are all there from the start.
+    // How many places are taken, from the first on. A vector would count for itself, but `slots` lends all eight and can't fail.
     count: u8,
     places: Eight<Option<Place>>,
 }
@@ -26,19 +26,7 @@ impl Layout {
         ensures count { result.count ≡ 0 }
         ensures means { all_mean result ≡ replicate 8 no_drives }
     {
-        Layout {
-            count: 0,
-            places: Eight {
-                a: None,
-                b: None,
-                c: None,
-                d: None,
-                e: None,
-                f: None,
-                g: None,
-                h: None,
-            },
-        }
+        Layout::default()
     }
 
     // The next free place takes the drive; the answer is its number.

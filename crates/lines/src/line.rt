@@ -6,6 +6,7 @@ ghost use Rattle.lines.specs.Kinds.{told_line, kind_of, line_of};
 use super::fault::Fault;
 use std::str::from_utf8;
 
+// A line that is skipped is a kind of line too: an option of the other two would be asked twice where a match asks once.
 #[derive(Clone, Copy, Debug)]
 pub enum Line<'a> {
     Skipped,

@@ -36,7 +36,8 @@ impl From<io::Error> for Trouble {
     }
 }
 
-// One run of a script: its lines, as far as they are read, and what it remembers.
+// One run of a script: its lines, as far as they are read, and what it remembers. How many lines are left changes with each call,
+// so that it is said by each method and is no fact of the type.
 #[derive(Drop)]
 pub struct Run<'a> {
     rt: &'a HostRuntime,

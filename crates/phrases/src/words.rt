@@ -57,10 +57,8 @@ fn seeds_go_on_from_sector_to_sector(rt: HostRuntime) {
 
 // What is said of a line that is no command.
 fn said(rt: &HostRuntime, line: &str) -> Result<String, Fail> {
-    match Command::parse(rt.alloc(), line) {
-        Ok(_) => Err(Fail::new("it is a command")),
-        Err(fault) => Ok(fault.to_string(rt.alloc())?),
-    }
+    let fault = Command::parse(rt.alloc(), line).err();
+    Ok(fault.ok_or("it is a command")?.to_string(rt.alloc())?)
 }
 
 #[test]

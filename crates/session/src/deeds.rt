@@ -24,6 +24,7 @@ pub fn perform<B: Bank>(
     ensures after { MatchResult result (λ _. Stored (B.Bank.meaning bank.old) (B.Bank.meaning bank.new) (reached (B.Bank.meaning bank.old) command) (carried command)) (λ _. bank.new ≡ bank.old) }
     ensures kept { B.Bank.stands bank.old → B.Bank.stands bank.new }
 {
+    // Which step is taken is the command's kind, and a match on it is plainer than a table of closures.
     match command {
         BankCommand::Count => Ok(Outcome::Counted {
             drives: bank.count(),
