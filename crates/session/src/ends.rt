@@ -7,10 +7,10 @@ use std::fmt;
 
 // Where a sector is read from, or why it can't be.
 #[derive(Clone, Copy)]
-pub(super) struct ReadEnd(pub(super) Result<Source, Cause>);
+pub(super) struct ReadText(pub(super) Result<Source, Cause>);
 
-impl fmt::Display for ReadEnd {
-    ghost output = { λ end. Some (end_text end.0) };
+impl fmt::Display for ReadText {
+    ghost output = { λ text. Some (end_text text.0) };
 
     fn fmt<W: fmt::Write>(&self, f: &mut fmt::Formatter<W>) -> fmt::Result {
         match &self.0 {
@@ -22,10 +22,10 @@ impl fmt::Display for ReadEnd {
 
 // Why a sector can't be written, if it can't.
 #[derive(Clone, Copy)]
-pub(super) struct WriteEnd(pub(super) Option<Cause>);
+pub(super) struct WriteText(pub(super) Option<Cause>);
 
-impl fmt::Display for WriteEnd {
-    ghost output = { λ end. Some (free_text end.0) };
+impl fmt::Display for WriteText {
+    ghost output = { λ text. Some (free_text text.0) };
 
     fn fmt<W: fmt::Write>(&self, f: &mut fmt::Formatter<W>) -> fmt::Result {
         match &self.0 {
@@ -37,10 +37,10 @@ impl fmt::Display for WriteEnd {
 
 // What a buffer was filled from, or why it wasn't.
 #[derive(Clone, Copy)]
-pub(super) struct Filled(pub(super) Result<Source, Cause>);
+pub(super) struct GotText(pub(super) Result<Source, Cause>);
 
-impl fmt::Display for Filled {
-    ghost output = { λ filled. Some (got_text filled.0) };
+impl fmt::Display for GotText {
+    ghost output = { λ text. Some (got_text text.0) };
 
     fn fmt<W: fmt::Write>(&self, f: &mut fmt::Formatter<W>) -> fmt::Result {
         match &self.0 {

@@ -2,7 +2,7 @@
 ghost use Rattle.std.specs.Prelude.{◌≡◌, Some};
 ghost use Rattle.session.specs.Outcomes.{outcome_text, accepted};
 
-use super::ends::{Filled, ReadEnd, WriteEnd};
+use super::ends::{GotText, ReadText, WriteText};
 use super::hex::Hex;
 use bank::{Cause, Source};
 use std::fmt;
@@ -50,10 +50,10 @@ impl fmt::Display for Outcome {
             Outcome::Counted { drives } => write!(f, "ok {drives}"),
             Outcome::Measured { sectors } => write!(f, "ok {sectors}"),
             Outcome::Ended { read, write } => {
-                write!(f, "ok read {} write {}", ReadEnd(*read), WriteEnd(*write))
+                write!(f, "ok read {} write {}", ReadText(*read), WriteText(*write))
             }
             Outcome::Got { from, digest } => {
-                write!(f, "{} buffer {}", Filled(*from), Hex(*digest))
+                write!(f, "{} buffer {}", GotText(*from), Hex(*digest))
             }
             Outcome::Stored(Ok(())) => f.write_str("ok"),
             Outcome::Stored(Err(cause)) => write!(f, "{cause}"),
