@@ -136,11 +136,15 @@ passed : (b : Bool) (n : ℕ) (o : Option ℕ) → cond b (Some n) o ≡ None �
 passed true n o e = let z : ◌≡◌ {A = ℕ} 0 1 = cc in absurd (omega arith)
 passed false n o e = (refl, e)
 
+own_read_free : (d s : ℕ) (o : Option ℕ) → refusal (own_read d s o) ≡ None → o ≡ None
+own_read_free d s None e = refl
+own_read_free d s (Some n) e = e
+
 own_write_free : (d s : ℕ) (o : Option ℕ) → cause_of (own_write d s o) ≡ None → o ≡ None
 own_write_free d s None e = refl
 own_write_free d s (Some n) e = e
 
--- A sector of a single drive that can be written lies on the drive 0, inside its length.
+-- A sector of a single drive that can be read or written lies on the drive 0, inside its length.
 pub record Free (k : Disk) (d s : ℕ) : Type 0 where
   pub first : d ≡ 0
   pub within : s < k.sectors
@@ -151,6 +155,13 @@ free k d s p q =
     let low : d ≡ 0 = omega (arith, leb-false 1 d p) in
     let within : s < k.sectors = leb-false k.sectors s q in
     record { first = low; within = within; held = cond-true _ (k.bytes s) blank (and_from _ _ (eq-eqb d 0 low) (lt-ltb s k.sectors within)) }
+
+pub readable : (k : Disk) (d s : ℕ) → refusal ((one_drive k).reads d s) ≡ None → Free k d s × ((one_drive k).reads d s ≡ cell (at d s))
+readable k d s e =
+    let none = own_read_free d s (first_due (read_causes k d s)) e in
+    let a = passed (leb 1 d) 1 _ none in
+    let b = passed (leb k.sectors s) 2 _ a.1 in
+    (free k d s a.0 b.0, ap (own_read d s) none)
 
 pub writable : (k : Disk) (d s : ℕ) → cause_of ((one_drive k).writes d s) ≡ None → Free k d s × ((one_drive k).writes d s ≡ cells (at d s ∷ []))
 writable k d s e =

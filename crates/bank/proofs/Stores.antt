@@ -2,12 +2,12 @@
 use Rattle.std.proofs.Common.{◌≡◌, ℕ, ◌+◌, ◌-◌, ◌<◌, ◌≤◌, min, true, cond, ◌&&◌, eqb, ltb, List, [], ◌∷◌, map, length, Some, sym, refl, ap, ◌∙◌, ⊎_elim, arith}
 use mathlib.Core.List.Memᴰ
 use mathlib.Core.List.{Memᴰ}
-use Rattle.std.proofs.lemmas.Bool.{lt-ltb, le-ltb, eq-eqb, eqb-true, cases_lt, cases_Bool, cond-true, cond-false, and_parts, and_from, ltb-true}
+use Rattle.std.proofs.lemmas.Bool.{lt-ltb, le-ltb, eq-eqb, ne_eqb, eqb-true, cases_eq, cases_lt, cases_Bool, cond-true, cond-false, and_parts, and_from, ltb-true}
 use Rattle.bank.specs.Due.{first_due}
-use Rattle.bank.specs.Meaning.{Cell, at, WriteEnd, cells, unwritten, cause_of, cells_of, write_due, Meaning, Stored}
-use Rattle.bank.proofs.Dues.{write_sized}
-use Rattle.bank.proofs.Shapes.{side_right, moved_write_cells}
-use Rattle.bank.specs.Shapes.{Disk, blank, one_drive, moved, moved_write, both_drives, beside, own_read, own_write, read_causes, write_causes}
+use Rattle.bank.specs.Meaning.{Cell, at, WriteEnd, cells, unwritten, cause_of, cells_of, write_due, Meaning, Stored, Plainly}
+use Rattle.bank.proofs.Dues.{write_sized, write_unsized}
+use Rattle.bank.proofs.Shapes.{side_left, side_right, side_neither, moved_write_cause, moved_write_cells}
+use Rattle.bank.specs.Shapes.{Disk, blank, one_drive, no_drives, moved, moved_write, both_drives, beside, own_read, own_write, read_causes, write_causes}
 
 -- a write that reaches no cell, of whatever bytes
 pub nothing_stored : (m : Meaning) (bs : List ℕ) → Stored m m [] bs
@@ -58,6 +58,28 @@ module _ (k k' : Disk) (t : ℕ) (bs : List ℕ) (w : Rewritten k k' t bs) where
     others = λ c e. held_elsewhere c (λ s. e (Memᴰ.head s));
   }
 
+-- Side by side, a write to the left bank that reaches only the left bank's drives.
+module _ (l l' r : Meaning) (cs : List Cell) (bs : List ℕ) (w : Stored l l' cs bs) where
+  left_held : (c : Cell) → c.drive < l.drives → (beside l' r).holds c ≡ l'.holds c
+  left_held c h = let k : c.drive < l'.drives = rw w.drives_stay h in cond-true _ _ _ (lt-ltb _ _ k)
+
+  left_others : (c : Cell) → (Memᴰ c cs → ⊥) → (beside l' r).holds c ≡ (beside l r).holds c
+  left_others c e =
+      ⊎_elim
+      (λ h. left_held c h ∙ w.others c e ∙ sym (cond-true _ _ _ (lt-ltb _ _ h)))
+      (λ h. rw w.drives_stay (cond-false _ _ _ (le-ltb _ _ h) ∙ sym (cond-false _ _ _ (le-ltb _ _ h))))
+      (cases_lt c.drive l.drives)
+
+  pub left_stored : ((c : Cell) → Memᴰ c cs → c.drive < l.drives) → Stored (beside l r) (beside l' r) cs bs
+  left_stored own = record {
+    drives_stay = ap (λ n. min (n + r.drives) 64) w.drives_stay;
+    sizes_stay = λ d. simp (w.drives_stay, w.sizes_stay);
+    reads_stay = λ d s. simp (w.drives_stay, w.reads_stay);
+    writes_stay = λ d s. simp (w.drives_stay, w.writes_stay);
+    reach = λ c e. left_held c (own c e) ∙ w.reach c e;
+    others = left_others;
+  }
+
 -- membership in the cells of the right bank as they are numbered side by side
 pub unmoved : (n : ℕ) (c : Cell) (cs : List Cell) → Memᴰ c (map (moved n) cs) → (b : Cell) × Memᴰ b cs × (c ≡ moved n b)
 unmoved n c [] e = absurd (Memᴰ.not-nil e)
@@ -102,15 +124,52 @@ pub refused_stored : (m : Meaning) (e : WriteEnd) (n : ℕ) (bs : List ℕ) → 
 refused_stored m (cells cs) n bs h = let z : ◌≡◌ {A = ℕ} 0 1 = cc in absurd (omega arith)
 refused_stored m (unwritten c) n bs h = nothing_stored m bs
 
--- What a write leaves that met a cause with data of the right size.
-pub refused_write : (m : Meaning) (d s : ℕ) (bs : List ℕ) (n : ℕ) → length bs ≡ 512 → Some n ≡ cause_of (m.writes d s) → Stored m m (cells_of (write_due m d s (length bs))) bs
-refused_write m d s bs n full e = rw (write_sized m d s (length bs) full) (refused_stored m (m.writes d s) n bs e)
+-- What a write promises where it answers a cause and leaves the bank as it is.
+pub refused_write : (m : Meaning) (d s : ℕ) (bs : List ℕ) (n : ℕ) → length bs ≡ 512 → Some n ≡ cause_of (m.writes d s) → (Some n ≡ cause_of (write_due m d s (length bs))) × Stored m m (cells_of (write_due m d s (length bs))) bs
+refused_write m d s bs n full e = rw (write_sized m d s (length bs) full) (e, refused_stored m (m.writes d s) n bs e)
 
--- A write through two banks side by side to a drive of the right one is the same write of that bank.
+pub unsized_write : (m : Meaning) (d s : ℕ) (bs : List ℕ) → (length bs ≡ 512 → ⊥) → (Some 8 ≡ cause_of (write_due m d s (length bs))) × Stored m m (cells_of (write_due m d s (length bs))) bs
+unsized_write m d s bs odd = rw (write_unsized m d s (length bs) odd) (refl, nothing_stored m bs)
+
+-- A plain bank's write reaches the drive that was named.
+own_drive : (m : Meaning) (d s : ℕ) → Plainly m → (c : Cell) → Memᴰ c (cells_of (m.writes d s)) → c.drive ≡ d
+own_drive m d s plain c e =
+    ⊎_elim
+    (λ p. ap (λ x. x.drive) (Memᴰ.eq_of_singleton (rw p at e)))
+    (λ p. absurd (Memᴰ.not-nil (rw p.1 at e)))
+    (plain.writes_own d s)
+
+-- Writes through one of two banks side by side. Each is the same write of the bank whose drive was named.
 module _ (l r : Meaning) (d s : ℕ) (bs : List ℕ) (full : length bs ≡ 512) (shown : d < both_drives l r) where
+  left_due : d < l.drives → write_due (beside l r) d s (length bs) ≡ write_due l d s (length bs)
+  left_due h = write_sized (beside l r) d s _ full ∙ side_left l r d _ _ _ shown h ∙ sym (write_sized l d s _ full)
+
   right_due : l.drives ≤ d → write_due (beside l r) d s (length bs) ≡ moved_write l.drives (write_due r (d - l.drives) s (length bs))
   right_due h =
       write_sized (beside l r) d s _ full ∙ side_right l r d _ _ _ shown h ∙ ap (moved_write l.drives) (sym (write_sized r (d - l.drives) s _ full))
 
+  pub left_cause : d < l.drives → cause_of (write_due l d s (length bs)) ≡ cause_of (write_due (beside l r) d s (length bs))
+  left_cause h = ap cause_of (sym (left_due h))
+
+  pub right_cause : l.drives ≤ d → cause_of (write_due r (d - l.drives) s (length bs)) ≡ cause_of (write_due (beside l r) d s (length bs))
+  right_cause h = sym (ap cause_of (right_due h) ∙ moved_write_cause l.drives _)
+
+  pub left_write : (l' : Meaning) → Plainly l → d < l.drives → Stored l l' (cells_of (write_due l d s (length bs))) bs → Stored (beside l r) (beside l' r) (cells_of (write_due (beside l r) d s (length bs))) bs
+  left_write l' plain h w =
+      let named : (c : Cell) → Memᴰ c (cells_of (write_due l d s (length bs))) → c.drive < l.drives = λ c e. omega (arith, own_drive l d s plain c (rw (write_sized l d s (length bs) full) at e)) in
+      rw (left_due h) (left_stored l l' r _ bs w named)
+
   pub right_write : (r' : Meaning) → l.drives ≤ d → Stored r r' (cells_of (write_due r (d - l.drives) s (length bs))) bs → Stored (beside l r) (beside l r') (cells_of (write_due (beside l r) d s (length bs))) bs
   right_write r' h w = rw (right_due h, moved_write_cells) (right_stored l r r' _ bs w)
+
+-- of a drive that neither bank has
+pub neither_cause : (l r : Meaning) (d s : ℕ) → both_drives l r ≤ d → Some 1 ≡ cause_of ((beside l r).writes d s)
+neither_cause l r d s h = ap cause_of (sym (side_neither l r d _ _ _ h))
+
+-- a write to a bank of no drive
+pub absent_write : (m : Meaning) (d s : ℕ) (bs : List ℕ) (n : ℕ) → m ≡ no_drives → n ≡ cond (eqb (length bs) 512) 1 8 → (Some n ≡ cause_of (write_due m d s (length bs))) × Stored m m (cells_of (write_due m d s (length bs))) bs
+absent_write m d s bs n none e =
+    ⊎_elim
+    (λ (full : length bs ≡ 512). refused_write m d s bs n full (ap Some (e ∙ cond-true _ 1 8 (eq-eqb _ 512 full)) ∙ sym (ap (λ x. cause_of (x.writes d s)) none)))
+    (λ (odd : length bs ≡ 512 → ⊥). rw (e ∙ cond-false _ 1 8 (ne_eqb _ 512 odd)) (unsized_write m d s bs odd))
+    (cases_eq (length bs) 512)

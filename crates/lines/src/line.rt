@@ -15,6 +15,7 @@ pub enum Line<'a> {
 }
 
 impl<'a> Line<'a> {
+    // Not a `TryFrom`: that a line is parsed is said by this name, and `try_from` would hide it.
     #[tactic(auto, using(crate::proofs::Sorting::ascii_true, crate::proofs::Sorting::ascii_false, crate::proofs::Sorting::not_ascii))]
     pub fn parse(bytes: &'a [u8]) -> Result<Line<'a>, Fault>
         ensures { result_map_both told_line (λ fault. fault) result ≡ line_of bytes.now }

@@ -50,6 +50,7 @@ impl Command {
     fn of_words(heap: Global, mut words: Words) -> Result<Command, Fault>
         ensures { Read told_command (command_said (unread words.entry)) result }
     {
+        // A choice by name again, of the two kinds of drives and all else.
         match words.word(Part::Command)? {
             "memory" => Ok(Command::Drive(Drive::memory(heap, words)?)),
             "rom" => Ok(Command::Drive(Drive::rom(words)?)),

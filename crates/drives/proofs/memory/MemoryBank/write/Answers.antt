@@ -9,7 +9,7 @@ use Rattle.drives.proofs.Written.{memory_stored, memory_bytes}
 use Rattle.drives.proofs.memory.MemoryBank.write.Goals as goal
 
 pub returns-in_err-writable-clause-after : goal.returns-in_err-writable-clause-after
-returns-in_err-writable-clause-after c = refused_write (memory_means c.args.self.now) c.args.address.drive c.args.address.sector c.args.bytes.now _ c.if-bytes-ne-SECTOR.false c.in_err-writable.ensures
+returns-in_err-writable-clause-after c = (refused_write (memory_means c.args.self.now) c.args.address.drive c.args.address.sector c.args.bytes.now _ c.if-bytes-ne-SECTOR.false c.in_err-writable.ensures).1
 
 pub returns-clause-after : goal.returns-clause-after
 returns-clause-after c =
