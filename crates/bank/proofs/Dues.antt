@@ -1,4 +1,4 @@
--- The end that is due at a place of the right size and at one of another, and what answers tell.
+-- The end that is due at a place of the right size and at one of another, and what answers tell: laws beside the definitions.
 use Rattle.std.proofs.Common.{◌≡◌, ℕ, None, refl}
 use Rattle.std.proofs.lemmas.Bool.{eq-eqb, ne_eqb, cond-true, cond-false}
 use Rattle.bank.specs.Meaning.{Meaning, unread, unwritten, read_due, write_due, refusal}

@@ -64,6 +64,7 @@ impl<'a> Run<'a> {
         self.on(&mut Layout::new())
     }
 
+    // The layout is lent: of one that is owned the proof would go through each place's drop at each way out.
     fn on(&mut self, layout: &mut Layout) -> Result<(), Trouble>
         ensures { OnOk result (left self.new.lines ≡ 0) }
     {
@@ -73,6 +74,7 @@ impl<'a> Run<'a> {
         self.sum_up()
     }
 
+    // Eight of any kind, for the same reason.
     fn ask_eight<T: Plain + Drop>(
         &mut self,
         banks: Eight<T>,
