@@ -1,4 +1,4 @@
--- One drive, no drive and two banks side by side are lawful and plain.
+-- One drive, and two banks side by side, are lawful and plain.
 use Rattle.std.proofs.Common.{◌≡◌, ℕ, ◌-◌, ◌^◌, ◌<◌, ◌≤◌, Bool, true, false, cond, ◌&&◌, eqb, ltb, leb, ◌⊎◌, [], ◌∷◌, map, Some, None, Option, refl, ap, ◌∙◌, inl, inr, ⊎_elim, arith}
 use Rattle.std.proofs.lemmas.Bool.{lt-ltb, le-ltb, le-leb, lt-leb, eq-eqb, ne_eqb, eqb-true, cond_both, cases_lt, cases_Bool, cond-true, cond-false, and_parts, and_from, ltb-true, leb-false}
 use Rattle.bank.specs.Due.{first_due}
