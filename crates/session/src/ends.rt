@@ -1,6 +1,6 @@
-// The ends of a sector, and what a read answered, as an outcome line writes them.
+// The ends of a sector, as an outcome line writes them.
 ghost use Rattle.std.specs.Prelude.{Some};
-ghost use Rattle.session.specs.Outcomes.{end_text, free_text, got_text};
+ghost use Rattle.session.specs.Outcomes.{end_text, free_text};
 
 use bank::{Cause, Source};
 use std::fmt;
@@ -31,21 +31,6 @@ impl fmt::Display for WriteText {
         match &self.0 {
             Some(cause) => write!(f, "{cause}"),
             None => f.write_str("free"),
-        }
-    }
-}
-
-// What a buffer was filled from, or why it wasn't.
-#[derive(Clone, Copy)]
-pub(super) struct GotText(pub(super) Result<Source, Cause>);
-
-impl fmt::Display for GotText {
-    ghost output = { λ text. Some (got_text text.0) };
-
-    fn fmt<W: fmt::Write>(&self, f: &mut fmt::Formatter<W>) -> fmt::Result {
-        match &self.0 {
-            Ok(source) => write!(f, "ok {source}"),
-            Err(cause) => write!(f, "{cause}"),
         }
     }
 }

@@ -2,7 +2,7 @@
 ghost use Rattle.std.specs.Prelude.{◌≡◌, Some};
 ghost use Rattle.session.specs.Outcomes.{outcome_text, accepted};
 
-use super::ends::{GotText, ReadText, WriteText};
+use super::ends::{ReadText, WriteText};
 use super::hex::Hex;
 use bank::{Cause, Source};
 use std::fmt;
@@ -53,7 +53,8 @@ impl fmt::Display for Outcome {
                 write!(f, "ok read {} write {}", ReadText(*read), WriteText(*write))
             }
             Outcome::Got { from, digest } => {
-                write!(f, "{} buffer {}", GotText(*from), Hex(*digest))
+                let ok = if from.is_ok() { "ok " } else { "" };
+                write!(f, "{ok}{} buffer {}", ReadText(*from), Hex(*digest))
             }
             Outcome::Stored(Ok(())) => f.write_str("ok"),
             Outcome::Stored(Err(cause)) => write!(f, "{cause}"),
