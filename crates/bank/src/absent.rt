@@ -1,9 +1,9 @@
 // A bank that may be absent: where it is, there is no drive.
 ghost use Rattle.bank.specs.Absent.{maybe_means, MaybeStands, maybe_lawful, maybe_plain};
 
-use super::SECTOR;
 use super::address::Address;
 use super::cause::Cause;
+use super::size::sized;
 use super::source::Source;
 use super::traits::{Bank, Plain};
 
@@ -15,24 +15,15 @@ impl<B: Bank> Bank for Option<B> {
     ghost lawful = { maybe_lawful B.meaning B.stands B.lawful };
 
     fn count(&self) -> u8 {
-        match self {
-            Some(bank) => bank.count(),
-            None => 0,
-        }
+        self.as_ref().map_or(0, |bank| bank.count())
     }
 
     fn length(&self, drive: u8) -> u64 {
-        match self {
-            Some(bank) => bank.length(drive),
-            None => 0,
-        }
+        self.as_ref().map_or(0, |bank| bank.length(drive))
     }
 
     fn read_end(&self, address: Address) -> Result<Source, Cause> {
-        match self {
-            Some(bank) => bank.read_end(address),
-            None => Err(Cause::NoDrive),
-        }
+        self.as_ref().ok_or(Cause::NoDrive)?.read_end(address)
     }
 
     fn write_cause(&self, address: Address) -> Option<Cause> {
@@ -43,19 +34,13 @@ impl<B: Bank> Bank for Option<B> {
     }
 
     fn read(&self, address: Address, place: &mut [u8]) -> Result<Source, Cause> {
-        match self {
-            Some(bank) => bank.read(address, place),
-            None if place.len() == SECTOR => Err(Cause::NoDrive),
-            None => Err(Cause::WrongSize),
-        }
+        sized(place)?;
+        self.as_ref().ok_or(Cause::NoDrive)?.read(address, place)
     }
 
     fn write(&mut self, address: Address, bytes: &[u8]) -> Result<(), Cause> {
-        match self {
-            Some(bank) => bank.write(address, bytes),
-            None if bytes.len() == SECTOR => Err(Cause::NoDrive),
-            None => Err(Cause::WrongSize),
-        }
+        sized(bytes)?;
+        self.as_mut().ok_or(Cause::NoDrive)?.write(address, bytes)
     }
 }
 

@@ -5,11 +5,13 @@
 mod absent;
 mod address;
 mod cause;
+mod size;
 mod source;
 mod traits;
 
 pub use address::Address;
 pub use cause::Cause;
+pub use size::sized;
 pub use source::Source;
 pub use traits::{Bank, Plain};
 

@@ -8,7 +8,7 @@ ghost use Rattle.drives.specs.Means.{memory_means, MemoryStands, memory_lawful};
 ghost use Rattle.drives.specs.Plain.{memory_plain};
 
 use super::single::Extent;
-use bank::{Address, Bank, Cause, Plain, SECTOR, Source};
+use bank::{Address, Bank, Cause, Plain, SECTOR, Source, sized};
 
 // The most sectors that a drive has, however many bytes there are.
 const LONGEST: u64 = 1 << 40;
@@ -100,18 +100,14 @@ impl Bank for Memory<'_> {
     }
 
     fn read(&self, address: Address, place: &mut [u8]) -> Result<Source, Cause> {
-        if place.len() != SECTOR {
-            return Err(Cause::WrongSize);
-        }
+        sized(place)?;
         let source = self.read_end(address)?;
         load(self.bytes, address.sector, place);
         Ok(source)
     }
 
     fn write(&mut self, address: Address, bytes: &[u8]) -> Result<(), Cause> {
-        if bytes.len() != SECTOR {
-            return Err(Cause::WrongSize);
-        }
+        sized(bytes)?;
         self.writable(address)?;
         store(self.bytes, address.sector, bytes);
         Ok(())

@@ -8,7 +8,7 @@ ghost use Rattle.drives.specs.Means.{rom_means, RomStands, rom_lawful};
 ghost use Rattle.drives.specs.Plain.{rom_plain};
 
 use super::single::Extent;
-use bank::{Address, Bank, Cause, Plain, SECTOR, Source};
+use bank::{Address, Bank, Cause, Plain, Source, sized};
 
 // One sector for each value of a byte.
 const MOST: u64 = 256;
@@ -70,19 +70,16 @@ impl Bank for Rom {
         Some(self.refusal(address))
     }
 
+    // As in `Memory` but for the line that fills the place: a closure for that line would be no plainer.
     fn read(&self, address: Address, place: &mut [u8]) -> Result<Source, Cause> {
-        if place.len() != SECTOR {
-            return Err(Cause::WrongSize);
-        }
+        sized(place)?;
         let source = self.read_end(address)?;
         place.fill(address.sector as u8);
         Ok(source)
     }
 
     fn write(&mut self, address: Address, bytes: &[u8]) -> Result<(), Cause> {
-        if bytes.len() != SECTOR {
-            return Err(Cause::WrongSize);
-        }
+        sized(bytes)?;
         Err(self.refusal(address))
     }
 }

@@ -3,7 +3,7 @@ ghost use Rattle.std.specs.Prelude.{◌≡◌, ◌≤◌};
 ghost use Rattle.edges.specs.Rack.{rack, rack_lawful};
 ghost use Rattle.std.proofs.Common.{rules};
 
-use bank::{Address, Bank, Cause, Plain, SECTOR, Source};
+use bank::{Address, Bank, Cause, Plain, Source, sized};
 
 #[derive(Clone, Copy)]
 pub struct Rack {
@@ -48,19 +48,16 @@ impl Bank for Rack {
         Some(missing.unwrap_or(Cause::Unwritable))
     }
 
+    // As in `Rom` but for the line that fills the place: a closure for that line would be no plainer.
     fn read(&self, address: Address, place: &mut [u8]) -> Result<Source, Cause> {
-        if place.len() != SECTOR {
-            return Err(Cause::WrongSize);
-        }
+        sized(place)?;
         let source = self.read_end(address)?;
         place.fill(0);
         Ok(source)
     }
 
     fn write(&mut self, address: Address, bytes: &[u8]) -> Result<(), Cause> {
-        if bytes.len() != SECTOR {
-            return Err(Cause::WrongSize);
-        }
+        sized(bytes)?;
         self.read_end(address)?;
         Err(Cause::Unwritable)
     }

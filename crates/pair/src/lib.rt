@@ -1,14 +1,12 @@
 // Two plain banks side by side: the left one's drives first, then the right one's, 64 in all at the most.
 #![tactic(auto)]
 
-ghost use Rattle.std.specs.Prelude.{◌≡◌, ◌≤◌, ◌<◌, length};
-ghost use Rattle.bank.specs.Meaning.{Stored, cause_of, cells_of, write_due};
+ghost use Rattle.std.specs.Prelude.{◌≡◌};
 ghost use Rattle.bank.specs.Shapes.{beside, both_drives};
-ghost use Rattle.bank.specs.Told.{told_write};
 ghost use Rattle.bank.proofs.Shapes.{beside_lawful, beside_plain};
 ghost use Rattle.pair.specs.Sides.{Placed};
 
-use bank::{Address, Bank, Cause, Plain, SECTOR, Source};
+use bank::{Address, Bank, Cause, Plain, Source, sized};
 
 // A bank shows no more drives than this.
 const MOST: u8 = 64;
@@ -94,9 +92,7 @@ impl<L: Plain, R: Plain> Bank for Pair<L, R> {
     }
 
     fn read(&self, address: Address, place: &mut [u8]) -> Result<Source, Cause> {
-        if place.len() != SECTOR {
-            return Err(Cause::WrongSize);
-        }
+        sized(place)?;
         match self.side(address.drive)? {
             Side::Left => self.left.read(address, place),
             Side::Right(drive) => {
@@ -108,9 +104,7 @@ impl<L: Plain, R: Plain> Bank for Pair<L, R> {
     }
 
     fn write(&mut self, address: Address, bytes: &[u8]) -> Result<(), Cause> {
-        if bytes.len() != SECTOR {
-            return Err(Cause::WrongSize);
-        }
+        sized(bytes)?;
         match self.side(address.drive)? {
             Side::Left => self.left.write(address, bytes),
             Side::Right(drive) => self.right.write(Address { drive, ..address }, bytes),
