@@ -6,7 +6,6 @@ use Rattle.bank.specs.Shapes.{one_drive}
 use Rattle.drives.specs.Disks as disks
 use Rattle.script.specs.Drives.{Plan, memory, rom}
 use Rattle.layout.specs.declared.layout.Layout.{Layout}
-use Rattle.layout.specs.Eights.{in_order}
 use Rattle.layout.specs.declared.place.Place.{Place}
 use Rattle.layout.specs.declared.place.Place.TheVariants.{Memory, Rom}
 
@@ -21,4 +20,4 @@ plan_means (rom sectors) = one_drive (disks.rom sectors)
 
 -- the eight places of a layout, in their order
 abbrev pub all_mean : Layout → List Meaning
-all_mean l = map (maybe_means place_means) (in_order l.places)
+all_mean l = map (maybe_means place_means) l.places

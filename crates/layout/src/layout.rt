@@ -14,11 +14,14 @@ use lines::Fault;
 use script::Drive;
 use std::alloc::Global;
 
+// How many drives a script may describe.
+const PLACES: usize = 8;
+
 #[derive(Default, Drop)]
 pub struct Layout {
-    // How many places are taken, from the first on. A vector would count for itself, but `slots` lends all eight and can't fail.
+    // How many places are taken, from the first on. A vector would count for itself, but `new` is not given the heap.
     count: u8,
-    places: Eight<Option<Place>>,
+    places: [Option<Place>; PLACES],
 }
 
 impl Layout {
@@ -35,11 +38,11 @@ impl Layout {
         ensures means { IfOk result (λ number. all_mean self.new ≡ slice_set (all_mean self.old) number (plan_means (told_drive drive))) }
     {
         let number = self.count;
-        if number >= 8 {
+        if number as usize >= PLACES {
             return Err(Fault::NinthDrive);
         }
         let place = Place::new(heap, drive)?;
-        self.places.put(number, Some(place));
+        self.places[number as usize] = Some(place);
         self.count = number + 1;
         Ok(number)
     }
@@ -49,23 +52,32 @@ impl Layout {
         ensures stand { SlotsStand result }
     {
         let places = &mut self.places;
+        let mut rest = places.iter_mut();
+        let a = slot_of(rest.next());
+        let b = slot_of(rest.next());
+        let c = slot_of(rest.next());
+        let d = slot_of(rest.next());
+        let e = slot_of(rest.next());
+        let f = slot_of(rest.next());
+        let g = slot_of(rest.next());
+        let h = slot_of(rest.next());
         Eight {
-            a: slot_of(&mut places.a),
-            b: slot_of(&mut places.b),
-            c: slot_of(&mut places.c),
-            d: slot_of(&mut places.d),
-            e: slot_of(&mut places.e),
-            f: slot_of(&mut places.f),
-            g: slot_of(&mut places.g),
-            h: slot_of(&mut places.h),
+            a,
+            b,
+            c,
+            d,
+            e,
+            f,
+            g,
+            h,
         }
     }
 }
 
-// The slot of a place that is taken.
-fn slot_of(place: &mut Option<Place>) -> Option<Slot<'_>>
-    ensures means { maybe_means slot_means result ≡ maybe_means place_means place.old }
+// The slot of a place, if there is one and it is taken.
+fn slot_of<'a>(place: Option<&'a mut Option<Place>>) -> Option<Slot<'a>>
+    ensures means { maybe_means slot_means result ≡ maybe_means (λ it. maybe_means place_means it.now) place.entry }
     ensures stands { MaybeStands SlotStands result }
 {
-    place.as_mut().map(Place::slot)
+    place?.as_mut().map(Place::slot)
 }
