@@ -21,8 +21,9 @@ pub struct Memory<'a> {
 }
 
 impl<'a> Memory<'a> {
-    // A drive of the whole sectors in `bytes`. The first 8 entries of each list are its bad sectors. The three are lent to this
-    // call alone and taken apart by no other, so that a struct for them would only be packed and unpacked.
+    // A drive of the whole sectors in `bytes`. The first 8 entries of each list are its bad sectors. The two lists come
+    // here as vectors of a script, by way of a store that owns them: one struct for them would be generic in the kind of list, and be
+    // packed and unpacked at each step.
     pub fn new(bytes: &'a mut [u8], unreadable: &'a [u64], unwritable: &'a [u64]) -> Memory<'a>
         ensures meaning { memory_means result ≡ one_drive (memory bytes.old unreadable.now unwritable.now) }
         ensures stands { MemoryStands result }

@@ -43,6 +43,7 @@ impl Bank for Rack {
         Ok(Source::Cell(address))
     }
 
+    // As `Rom` does it in a function that is its own.
     fn write_cause(&self, address: Address) -> Option<Cause> {
         let missing = self.read_end(address).err();
         Some(missing.unwrap_or(Cause::Unwritable))

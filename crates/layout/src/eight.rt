@@ -1,6 +1,6 @@
 // Eight of a kind, in their order.
 
-// An array would say it in a word, but the checker's borrow rules cover no array of slots: they are enums that hold a `&mut`.
+// An array would say it in a word, and was tried: the checker's borrow rules cover no array of enums that hold a `&mut`, as slots do.
 #[derive(Drop)]
 pub struct Eight<T> {
     pub a: T,

@@ -48,6 +48,7 @@ impl Place {
         }
     }
 
+    // What it promises stands at each function on the way from a place to its slot: it relates two values, and is no fact of one.
     pub(super) fn slot(&mut self) -> Slot<'_>
         ensures meaning { slot_means result ≡ place_means self.old }
         ensures stands { SlotStands result }

@@ -4,7 +4,8 @@ ghost use Rattle.layout.specs.Slots.{slot_means, SlotStands, slot_lawful, slot_p
 use bank::{Address, Bank, Cause, Plain, Source};
 use drives::{Memory, Rom};
 
-// An enum, and no `dyn Plain`: a boxed drive would have to be made here and handed out.
+// An enum, and no `dyn Plain`: `slots` would make boxes and hand them out, which the gate refuses, and a box can fail for want of
+// memory where `slots` can't. So each method has a match of its own.
 #[derive(Drop)]
 pub enum Slot<'a> {
     Memory(Memory<'a>),

@@ -88,8 +88,7 @@ fn play(rt: &HostRuntime, text: &[u8], script: impl fmt::Display + Drop) -> io::
     run.to_end().map_err(|trouble| match trouble {
         Trouble::Outside(error) => error,
         Trouble::Malformed(fault) => {
-            let line = run.lines.number;
-            let _ = eprintln!(rt; "error: {script}line {line}: {fault}");
+            let _ = eprintln!(rt; "error: {script}line {}: {fault}", run.lines.number);
             io::ErrorKind::InvalidData.into()
         }
     })

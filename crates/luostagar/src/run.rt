@@ -6,7 +6,7 @@ use super::joined::joined;
 use bank::{Bank, Plain};
 use layout::{Eight, Layout};
 use lines::{Fault, Line, Lines};
-use script::{BankCommand, Command};
+use script::{BankCommand, Command, Drive};
 use session::{Outcome, Session, perform};
 use std::alloc::AllocError;
 use std::io;
@@ -36,13 +36,12 @@ impl From<io::Error> for Trouble {
     }
 }
 
-// One run of a script: its lines, as far as they are read, and what it remembers. How many lines are left changes with each call,
-// so that it is said by each method and is no fact of the type.
+// One run of a script: its lines, as far as they are read, and what is told of them. How many lines are left changes with each
+// call, so that it is said by each method and is no fact of the type.
 #[derive(Drop)]
 pub struct Run<'a> {
-    rt: &'a HostRuntime,
     pub lines: Lines<'a>,
-    session: Session,
+    journal: Journal<'a>,
 }
 
 impl<'a> Run<'a> {
@@ -51,9 +50,11 @@ impl<'a> Run<'a> {
         ensures number { result.lines.number ≡ 0 }
     {
         Run {
-            rt,
             lines: Lines::new(text),
-            session: Session::new(),
+            journal: Journal {
+                rt,
+                session: Session::new(),
+            },
         }
     }
 
@@ -64,17 +65,17 @@ impl<'a> Run<'a> {
         self.on(&mut Layout::new())
     }
 
-    // The layout is lent: of one that is owned the proof would go through each place's drop at each way out.
+    // The layout is lent: of one that is owned the proof would go through each place's drop at each way out, for minutes.
     fn on(&mut self, layout: &mut Layout) -> Result<(), Trouble>
         ensures { OnOk result (left self.new.lines ≡ 0) }
     {
         if let Some(first) = self.describe(layout)? {
             self.ask_eight(layout.slots(), first)?;
         }
-        self.sum_up()
+        self.journal.sum_up()
     }
 
-    // Eight of any kind, for the same reason.
+    // Eight of any kind, since the drops of eight slots would be gone through in the same way.
     fn ask_eight<T: Plain + Drop>(
         &mut self,
         banks: Eight<T>,
@@ -92,10 +93,7 @@ impl<'a> Run<'a> {
         while let Some(command) = self.next_command()? {
             match command {
                 Command::Bank(command) => return Ok(Some(command)),
-                Command::Drive(drive) => {
-                    let drive = layout.add(self.rt.alloc(), drive)?;
-                    self.note(Outcome::Attached { drive })?;
-                }
+                Command::Drive(drive) => self.journal.attach(layout, drive)?,
             }
         }
         Ok(None)
@@ -105,10 +103,10 @@ impl<'a> Run<'a> {
     fn ask<B: Bank>(&mut self, bank: &mut B, first: BankCommand) -> Result<(), Trouble>
         ensures { OnOk result (left self.new.lines ≡ 0) }
     {
-        self.answer(bank, first)?;
+        self.journal.answer(bank, first)?;
         while let Some(command) = self.next_command()? {
             match command {
-                Command::Bank(command) => self.answer(bank, command)?,
+                Command::Bank(command) => self.journal.answer(bank, command)?,
                 Command::Drive(_) => return Err(Trouble::Malformed(Fault::LateDrive)),
             }
         }
@@ -119,37 +117,48 @@ impl<'a> Run<'a> {
     fn next_command(&mut self) -> Result<Option<Command>, Trouble>
         ensures { IfOk result (λ command. MatchOption command (left self.new.lines ≡ 0) (λ _. left self.new.lines < left self.old.lines)) }
     {
+        // Not a `for` over `&mut self.lines`: tried, and behind it the proof doesn't know what is left.
         while let Some(bytes) = self.lines.next() {
             match Line::parse(bytes)? {
                 Line::Skipped => {}
-                Line::Expectation(text) => self.compare(text)?,
-                Line::Command(text) => return Ok(Some(Command::parse(self.rt.alloc(), text)?)),
+                Line::Expectation(text) => self.journal.compare(text)?,
+                Line::Command(text) => {
+                    return Ok(Some(Command::parse(self.journal.rt.alloc(), text)?));
+                }
             }
         }
         Ok(None)
     }
+}
 
-    fn compare(&mut self, text: &str) -> Result<(), Trouble>
-        ensures { self.new.lines ≡ self.old.lines }
-    {
-        if !self.session.expect(text)? {
-            println!(self.rt; "differs: {text}")?;
-        }
-        Ok(())
+// What a run tells of its commands, and what it remembers of them.
+#[derive(Drop)]
+struct Journal<'a> {
+    rt: &'a HostRuntime,
+    session: Session,
+}
+
+impl Journal<'_> {
+    fn attach(&mut self, layout: &mut Layout, drive: Drive) -> Result<(), Trouble> {
+        let drive = layout.add(self.rt.alloc(), drive)?;
+        self.note(Outcome::Attached { drive })
     }
 
-    fn answer<B: Bank>(&mut self, bank: &mut B, command: BankCommand) -> Result<(), Trouble>
-        ensures { self.new.lines ≡ self.old.lines }
-    {
+    fn answer<B: Bank>(&mut self, bank: &mut B, command: BankCommand) -> Result<(), Trouble> {
         let outcome = perform(self.rt.alloc(), bank, command)?;
         self.note(outcome)
     }
 
-    fn note(&mut self, outcome: Outcome) -> Result<(), Trouble>
-        ensures { self.new.lines ≡ self.old.lines }
-    {
+    fn note(&mut self, outcome: Outcome) -> Result<(), Trouble> {
         self.session.note(self.rt.alloc(), &outcome)?;
         println!(self.rt; "{outcome}")?;
+        Ok(())
+    }
+
+    fn compare(&mut self, text: &str) -> Result<(), Trouble> {
+        if !self.session.expect(text)? {
+            println!(self.rt; "differs: {text}")?;
+        }
         Ok(())
     }
 
