@@ -33,6 +33,7 @@ impl Layout {
     }
 
     // The next free place takes the drive; the answer is its number.
+    #[tactic(auto, using(crate::proofs::Taken::taken))]
     pub fn add(&mut self, heap: Global, drive: Drive) -> Result<u8, Fault>
         ensures number { MatchResult result (λ number. (number ≡ self.old.count) × (self.new.count ≡ self.old.count + 1)) (λ _. self.new ≡ self.old) }
         ensures means { IfOk result (λ number. all_mean self.new ≡ slice_set (all_mean self.old) number (plan_means (told_drive drive))) }
