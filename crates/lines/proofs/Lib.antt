@@ -1,2 +1,3 @@
+mod Newlines
 mod Numbers
 mod Sorting
