@@ -1,3 +1,4 @@
+mod Commands
 mod Cuts
 mod Drives
 mod Places

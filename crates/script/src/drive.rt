@@ -66,7 +66,7 @@ fn seam(words: &[&str]) -> Option<usize>
 }
 
 // A list of sectors: nothing, or its name and one number or more.
-#[tactic(auto, using(crate::proofs::Drives::name_alone, crate::proofs::Drives::name_first))]
+#[tactic(auto, using(crate::proofs::Drives::named_alone, crate::proofs::Drives::named_first))]
 fn marked(heap: Global, words: &[&str], name: &str, part: Part) -> Result<Vec<u64>, Fault>
     ensures { Read vec_items (marked_in name.now part (texts words.now)) result }
 {
