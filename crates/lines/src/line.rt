@@ -6,7 +6,7 @@ ghost use Rattle.lines.specs.Kinds.{told_line, kind_of, line_of};
 use super::fault::Fault;
 use std::str::from_utf8;
 
-// A line that is skipped is a kind of line too: an option of the other two would be asked twice where a match asks once.
+// A skipped line is a kind of line; an option around the other two would be no plainer: the same three arms, nested.
 #[derive(Clone, Copy, Debug)]
 pub enum Line<'a> {
     Skipped,
@@ -15,7 +15,7 @@ pub enum Line<'a> {
 }
 
 impl<'a> Line<'a> {
-    // Not a `TryFrom`: that a line is parsed is said by this name, and `try_from` would hide it.
+    // `try_from` would do the same; `parse` says that text is read.
     #[tactic(auto, using(crate::proofs::Sorting::ascii_true, crate::proofs::Sorting::ascii_false, crate::proofs::Sorting::not_ascii))]
     pub fn parse(bytes: &'a [u8]) -> Result<Line<'a>, Fault>
         ensures { result_map_both told_line (λ fault. fault) result ≡ line_of bytes.now }

@@ -50,7 +50,7 @@ impl Command {
     fn of_words(heap: Global, mut words: Words) -> Result<Command, Fault>
         ensures { Read told_command (command_said (unread words.entry)) result }
     {
-        // A choice by name again, of the two kinds of drives and all else.
+        // A match is the plain form of a choice by name; a table would have to hold functions of different results.
         match words.word(Part::Command)? {
             "memory" => Ok(Command::Drive(Drive::memory(heap, words)?)),
             "rom" => Ok(Command::Drive(Drive::rom(words)?)),
@@ -75,6 +75,7 @@ impl BankCommand {
     }
 }
 
+// What each command says is promised for any name: the definitions count places from the name, which is read before.
 fn count(mut words: Words) -> Result<BankCommand, Fault>
     ensures { (name : List ℕ) → result ≡ count_said (name ∷ unread words.entry) }
 {

@@ -1,6 +1,6 @@
 // The drives that a script describes before its other commands.
-ghost use Rattle.std.specs.Prelude.{◌≡◌, ℕ, List, ◌∷◌, ◌≤◌, length, vec_items, codes, position, unwrap_or};
-ghost use Rattle.script.specs.Drives.{Read, told_drive, numbers, marked_in, seam_in, lists_in, memory_said, rom_said};
+ghost use Rattle.std.specs.Prelude.{◌≡◌, ℕ, List, ◌∷◌, vec_items, codes, position};
+ghost use Rattle.script.specs.Drives.{Read, told_drive, numbers, marked_in, lists_in, memory_said, rom_said};
 ghost use Rattle.std.specs.Str.{bytes_eq};
 ghost use Rattle.lines.specs.Texts.{texts};
 ghost use Rattle.script.specs.Words.{unread};

@@ -12,6 +12,7 @@ use lines::{Fault, Part, number};
 const MOST_BYTES: u64 = 1 << 20;
 
 // The words of a line that are not read yet. To read one is to step over it.
+// Each reader says itself how many words it steps over: that is a fact of the step, and no fact of the type.
 #[derive(Clone, Copy)]
 pub struct Words<'a> {
     pub left: &'a [&'a str],

@@ -1,5 +1,5 @@
 // A number of 32 bits as eight hexadecimal digits.
-ghost use Rattle.std.specs.Prelude.{◌≡◌, Some};
+ghost use Rattle.std.specs.Prelude.{Some};
 ghost use Rattle.session.specs.Hex.{hex_text};
 
 use std::fmt;
