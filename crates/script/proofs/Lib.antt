@@ -1,4 +1,5 @@
 mod Commands
 mod Cuts
 mod Drives
+mod Numbers
 mod Places

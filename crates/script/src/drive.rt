@@ -81,10 +81,8 @@ fn marked(heap: Global, words: &[&str], name: &str, part: Part) -> Result<Vec<u6
 fn all_numbers(heap: Global, words: &[&str], part: Part) -> Result<Vec<u64>, Fault>
     ensures { Read vec_items (numbers part (texts words.now)) result }
 {
-    let mut list = Vec::new(heap);
-    // A loop, not a chain that collects: the contract says which fault comes of a word that is no number.
-    for word in words {
-        list.push(number_of(word, part)?)?;
-    }
-    Ok(list)
+    words
+        .iter()
+        .map(|word| number_of(word, part))
+        .try_collect(heap)
 }
