@@ -39,11 +39,12 @@ impl Layout {
         ensures means { IfOk result (λ number. all_mean self.new ≡ slice_set (all_mean self.old) number (plan_means (told_drive drive))) }
     {
         let number = self.count;
-        if number as usize >= PLACES {
+        let free = usize::from(number);
+        if free >= PLACES {
             return Err(Fault::NinthDrive);
         }
         let place = Place::new(heap, drive)?;
-        self.places[number as usize] = Some(place);
+        self.places[free] = Some(place);
         self.count = number + 1;
         Ok(number)
     }
