@@ -27,10 +27,9 @@ impl<B: Bank> Bank for Option<B> {
     }
 
     fn write_cause(&self, address: Address) -> Option<Cause> {
-        match self {
-            Some(bank) => bank.write_cause(address),
-            None => Some(Cause::NoDrive),
-        }
+        let absent = Some(Cause::NoDrive);
+        self.as_ref()
+            .map_or(absent, |bank| bank.write_cause(address))
     }
 
     fn read(&self, address: Address, place: &mut [u8]) -> Result<Source, Cause> {

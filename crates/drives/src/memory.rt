@@ -22,8 +22,8 @@ pub struct Memory<'a> {
 
 impl<'a> Memory<'a> {
     // A drive of the whole sectors in `bytes`. The first 8 entries of each list are its bad sectors. The two lists come
-    // here as vectors of a script, by way of a store that owns them: one struct for them would be generic in the kind of list, and be
-    // packed and unpacked at each step.
+    // as vectors that a place of a script's drive owns: one struct for them would be generic in the kind of list, to be turned
+    // from the one kind into the other at this call.
     pub fn new(bytes: &'a mut [u8], unreadable: &'a [u64], unwritable: &'a [u64]) -> Memory<'a>
         ensures meaning { memory_means result ≡ one_drive (memory bytes.old unreadable.now unwritable.now) }
         ensures stands { MemoryStands result }
@@ -100,6 +100,7 @@ impl Bank for Memory<'_> {
         self.writable(address).err()
     }
 
+    // See `Rom::read`, which is the same but for a line.
     fn read(&self, address: Address, place: &mut [u8]) -> Result<Source, Cause> {
         sized(place)?;
         let source = self.read_end(address)?;

@@ -70,7 +70,8 @@ impl Bank for Rom {
         Some(self.refusal(address))
     }
 
-    // As in `Memory` but for the line that fills the place: a closure for that line would be no plainer.
+    // As in `Memory` but for the line that fills the place: a function of both, with a closure for that line and clauses about it,
+    // would be longer than the lines it saves.
     fn read(&self, address: Address, place: &mut [u8]) -> Result<Source, Cause> {
         sized(place)?;
         let source = self.read_end(address)?;

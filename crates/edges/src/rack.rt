@@ -29,6 +29,7 @@ impl Bank for Rack {
         self.drives
     }
 
+    // A lone drive's extent has one drive where this has many; one type for both would be public for the tests alone.
     fn length(&self, drive: u8) -> u64 {
         if drive < self.drives { 1 } else { 0 }
     }
@@ -43,13 +44,14 @@ impl Bank for Rack {
         Ok(Source::Cell(address))
     }
 
-    // As `Rom` does it in a function that is its own.
+    // As `Rom::refusal`, in another crate: a public function for this line would be no plainer.
     fn write_cause(&self, address: Address) -> Option<Cause> {
         let missing = self.read_end(address).err();
         Some(missing.unwrap_or(Cause::Unwritable))
     }
 
-    // As in `Rom` but for the line that fills the place: a closure for that line would be no plainer.
+    // As in `Rom` but for the line that fills the place: a function of both, with a closure for that line and clauses about it, would
+    // be longer than the lines it saves.
     fn read(&self, address: Address, place: &mut [u8]) -> Result<Source, Cause> {
         sized(place)?;
         let source = self.read_end(address)?;

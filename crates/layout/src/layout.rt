@@ -19,7 +19,8 @@ const PLACES: usize = 8;
 
 #[derive(Default, Drop)]
 pub struct Layout {
-    // How many places are taken, from the first on. A vector would count for itself, but `new` is not given the heap.
+    // How many places are taken, from the first on. A vector would count for itself, but `new` is not given the heap; a search for the
+    // first free place would need an invariant, that no place behind it is taken.
     count: u8,
     places: [Option<Place>; PLACES],
 }
@@ -55,23 +56,16 @@ impl Layout {
     {
         let places = &mut self.places;
         let mut rest = places.iter_mut();
-        let a = slot_of(rest.next());
-        let b = slot_of(rest.next());
-        let c = slot_of(rest.next());
-        let d = slot_of(rest.next());
-        let e = slot_of(rest.next());
-        let f = slot_of(rest.next());
-        let g = slot_of(rest.next());
-        let h = slot_of(rest.next());
+        // Eight calls, since `Eight` is no array.
         Eight {
-            a,
-            b,
-            c,
-            d,
-            e,
-            f,
-            g,
-            h,
+            a: slot_of(rest.next()),
+            b: slot_of(rest.next()),
+            c: slot_of(rest.next()),
+            d: slot_of(rest.next()),
+            e: slot_of(rest.next()),
+            f: slot_of(rest.next()),
+            g: slot_of(rest.next()),
+            h: slot_of(rest.next()),
         }
     }
 }

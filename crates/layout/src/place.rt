@@ -26,7 +26,8 @@ pub enum Place {
 }
 
 impl Place {
-    // A memory drive holds zeros at first. This is no `From`: it allocates, and `from` is not given the heap.
+    // A memory drive holds zeros at first. This is no `TryFrom`: it allocates, and `try_from` is
+    // not given the heap.
     pub(super) fn new(heap: Global, drive: Drive) -> Result<Place, Fault>
         ensures { IfOk result (λ place. place_means place ≡ plan_means (told_drive drive)) }
     {

@@ -80,6 +80,7 @@ impl From<AllocError> for Fault {
     }
 }
 
+// The same again, since it is another type: what a collection could not take in.
 impl<T: Drop> From<AllocFailed<T>> for Fault {
     ghost from_gives = { λ _ fault. fault ≡ NoMemory };
 

@@ -34,6 +34,7 @@ impl<'a> Line<'a> {
         if text.is_empty() || text.starts_with('#') {
             return Line::Skipped;
         }
+        // A match, since both arms hold a text: `map_or` would make a line of the one before it looks at the other.
         match text.strip_prefix("= ") {
             Some(expected) => Line::Expectation(expected),
             None => Line::Command(text),

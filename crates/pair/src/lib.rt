@@ -17,7 +17,8 @@ pub struct Pair<L, R> {
     right: R,
 }
 
-// Whose drive a number names, with its number in the right bank.
+// Whose drive a number names, with its number in the right bank. The two banks are of two types, and only the right one's number is
+// another, so that each method asks the one or the other in a match of its own.
 enum Side {
     Left,
     Right(u8),

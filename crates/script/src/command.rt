@@ -60,7 +60,7 @@ impl Command {
 }
 
 impl BankCommand {
-    // A command is known by its name, and a match is the plain form of a choice by name.
+    // A command is known by its name, and a match is the plain form of a choice by name: a table of functions would be searched by hand.
     fn parse(name: &str, words: Words) -> Result<BankCommand, Fault>
         ensures { result ≡ bank_said (name.now ∷ unread words.entry) }
     {
