@@ -65,7 +65,7 @@ impl<'a> Run<'a> {
         self.on(&mut Layout::new())
     }
 
-    // The layout is lent: of one that is owned the proof would go through each place's drop at each way out, for minutes.
+    // The layout is lent. With one of its own this was tried: the proof went through each place's drop at each way out, and did not close.
     fn on(&mut self, layout: &mut Layout) -> Result<(), Trouble>
         ensures { OnOk result (left self.new.lines ≡ 0) }
     {
@@ -75,7 +75,7 @@ impl<'a> Run<'a> {
         self.journal.sum_up()
     }
 
-    // Eight of any kind, since the drops of eight slots would be gone through in the same way.
+    // Eight banks of any kind, so that the proof has no drops of slots to go through.
     fn ask_eight<T: Plain + Drop>(
         &mut self,
         banks: Eight<T>,
